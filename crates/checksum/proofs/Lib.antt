@@ -1,0 +1,7 @@
+pub mod Division
+pub mod Fold
+pub mod Machine
+pub mod Attachment
+pub mod Answers
+pub mod Agreement
+pub mod Worked

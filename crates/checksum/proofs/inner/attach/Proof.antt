@@ -1,0 +1,31 @@
+-- `checksum::inner::attach` meets its contract. Assumes nothing.
+use denote.Ref.{now}
+use borrow.Author.Needs.{needs}
+use Rattle.checksum.proofs.Attachment.{sets-attached}
+use Rattle.checksum.proofs.inner.attach.Statement.{statement}
+use Rattle.checksum.proofs.inner.attach.Tie as tie
+
+unpack-requires : tie.Need-unpack-requires
+unpack-requires c κs = search needs
+
+sum-octets-requires : tie.Need-sum-octets-requires
+sum-octets-requires c κs = search needs
+
+mul-a : tie.Need-mul-a
+mul-a c = search needs
+
+put-number-requires : tie.Need-put-number-requires
+put-number-requires c κs = search needs
+
+same-length : tie.Need-same-length
+same-length c = search needs
+
+returns : tie.Need-returns
+returns c =
+    let a = c .before .before .before .before .before .before .before .before .before .before .before .args in
+    cc (sets-attached (a .w) (a .g) (now (a .out)) (now (a .octets)))
+
+pub attach-spec : {M : Type 1} → statement M
+attach-spec =
+    tie.close
+    (tie.spec unpack-requires sum-octets-requires mul-a put-number-requires same-length returns)

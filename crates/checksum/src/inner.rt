@@ -1,0 +1,59 @@
+// Checksums where the width and the generator are known to go together.
+use crate::register;
+ghost use mathlib.Core.Path.{_≡_};
+ghost use Prim.Native.Nat.{_+_, _*_, _≤_};
+ghost use lib.ListN.{length};
+ghost use lib.Seq.{sets};
+ghost use Rattle.bits.specs.Bits.{AreBits, unpacked};
+ghost use Rattle.checksum.specs.Crc.{checksum, attached, checks};
+ghost use Rattle.checksum.specs.steps.Register.{Generator};
+
+// The checksum of packed octets.
+pub fn sum_octets(octets: &[u8], w: u32, g: u32) -> u32
+    requires { ⌜ Generator w g ⌝ }
+    ensures { λ r. ⌜ r ≡ checksum w g (unpacked (now (octets .entry))) ⌝ }
+{
+    let mut r: u32 = 0;
+    let mut i = 0;
+    while i < octets.len() {
+        r = register::octet(r, octets[i], w, g);
+        i += 1;
+    }
+    r
+}
+
+// The checksum of bits that stand one to an octet.
+pub fn sum_bits(bits: &[u8], w: u32, g: u32) -> u32
+    requires { ⌜ Generator w g × AreBits (now bits) ⌝ }
+    ensures { λ r. ⌜ r ≡ checksum w g (now (bits .entry)) ⌝ }
+{
+    let mut r: u32 = 0;
+    let mut i = 0;
+    while i < bits.len() {
+        let bit = bits[i] as u32;
+        r = register::step(r, bit, w, g);
+        i += 1;
+    }
+    r
+}
+
+// Writes the bits of packed octets, and then the bits of their checksum.
+pub fn attach(octets: &[u8], w: u32, g: u32, out: &mut [u8])
+    requires { ⌜ Generator w g × (8 * length (now octets) + w ≤ length (now out)) ⌝ }
+    ensures { λ _. ⌜ now (out .exit) ≡ sets (now (out .entry)) 0 (attached w g (unpacked (now (octets .entry)))) ⌝ }
+{
+    bits::inner::unpack(octets, out, 0);
+    let sum = sum_octets(octets, w, g);
+    let a = 8 * octets.len();
+    bits::inner::put_number(out, a, sum, w);
+}
+
+// Whether the last w bits are the checksum of those before them: recomputed, and compared.
+pub fn is_attached(bits: &[u8], w: u32, g: u32) -> bool
+    requires { ⌜ Generator w g × (w ≤ length (now bits)) × AreBits (now bits) ⌝ }
+    ensures { λ r. ⌜ r ≡ checks w g (now (bits .entry)) ⌝ }
+{
+    let a = bits.len() - w as usize;
+    let sum = sum_bits(&bits[..a], w, g);
+    sum == bits::inner::get_number(bits, a, w)
+}

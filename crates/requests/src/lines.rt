@@ -1,0 +1,59 @@
+// Lines: what of one is a request, and what it is answered.
+use crate::answers::Answer;
+use crate::answers::Fault;
+use crate::names;
+ghost use Prim.Native.Nat.{_≤_};
+ghost use lib.ListN.{length};
+
+// Of a line that is too long only the start is here, and a comment has no answer even then.
+pub fn answer(line: &[u8], long: bool, store: &mut [u8]) -> Answer {
+    if is_comment(line) {
+        return Answer::Nothing;
+    }
+    if long {
+        return Answer::Error(Fault::Long);
+    }
+    let n = without_spaces(line, before_comment(line));
+    if n == 0 {
+        return Answer::Nothing;
+    }
+    names::answer(&line[0..n], store)
+}
+
+fn is_comment(line: &[u8]) -> bool {
+    if line.len() == 0 {
+        return false;
+    }
+    line[0] == b'#'
+}
+
+// A comment behind a request begins with the first space that a # follows.
+fn before_comment(line: &[u8]) -> usize
+    ensures { λ r. ⌜ r ≤ length (now (line .entry)) ⌝ }
+{
+    let mut i = 1;
+    while i < line.len() {
+        if line[i] == b'#' {
+            if line[i - 1] == b' ' {
+                return i - 1;
+            }
+        }
+        i += 1;
+    }
+    line.len()
+}
+
+// Where the spaces before `end` begin.
+fn without_spaces(line: &[u8], end: usize) -> usize
+    requires { ⌜ end ≤ length (now line) ⌝ }
+    ensures { λ r. ⌜ r ≤ end ⌝ }
+{
+    let mut n = end;
+    while n > 0 {
+        if line[n - 1] != b' ' {
+            return n;
+        }
+        n -= 1;
+    }
+    n
+}

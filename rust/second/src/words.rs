@@ -1,0 +1,190 @@
+//! Reads the single words of a request (docs/REQUESTS.md, "Words").
+
+use crate::errors::Fault;
+
+/// The most octets that a word of bits stands for.
+pub const BITS_ROOM: usize = 140_000;
+
+/// A decimal number. Zeros in front change no value, so any count of them is taken.
+pub fn number(word: &[u8]) -> Result<u64, Fault> {
+    if word.is_empty() {
+        return Err(Fault::Number);
+    }
+    let mut value: u64 = 0;
+    for &character in word {
+        let digit = decimal(character).ok_or(Fault::Number)?;
+        value = value
+            .checked_mul(10)
+            .and_then(|tens| tens.checked_add(u64::from(digit)))
+            .ok_or(Fault::Number)?;
+    }
+    Ok(value)
+}
+
+/// The octets of a word of bits. They may be over 1: the call that takes them judges that.
+pub fn bits(word: &[u8]) -> Result<Vec<u8>, Fault> {
+    if word == b"-" {
+        return Ok(Vec::new());
+    }
+    match word.strip_prefix(b"x:") {
+        Some(digits) => octets_of_pairs(digits),
+        None => octets_of_digits(word),
+    }
+}
+
+fn octets_of_digits(digits: &[u8]) -> Result<Vec<u8>, Fault> {
+    if digits.len() > BITS_ROOM {
+        return Err(Fault::Long);
+    }
+    digits
+        .iter()
+        .map(|&digit| decimal(digit).ok_or(Fault::Bits))
+        .collect()
+}
+
+fn octets_of_pairs(digits: &[u8]) -> Result<Vec<u8>, Fault> {
+    // Half an octet at the end would need the room of a whole one.
+    if digits.len().div_ceil(2) > BITS_ROOM {
+        return Err(Fault::Long);
+    }
+    digits
+        .chunks(2)
+        .map(|pair| octet_of_pair(pair).ok_or(Fault::Bits))
+        .collect()
+}
+
+fn octet_of_pair(pair: &[u8]) -> Option<u8> {
+    match *pair {
+        [high, low] => Some(16 * hexadecimal(high)? + hexadecimal(low)?),
+        _ => None,
+    }
+}
+
+fn decimal(character: u8) -> Option<u8> {
+    match character {
+        b'0'..=b'9' => Some(character - b'0'),
+        _ => None,
+    }
+}
+
+fn hexadecimal(character: u8) -> Option<u8> {
+    match character {
+        b'a'..=b'f' => Some(character - b'a' + 10),
+        b'A'..=b'F' => Some(character - b'A' + 10),
+        _ => decimal(character),
+    }
+}
+
+#[cfg(test)]
+mod tests {
+    use super::{bits, number, BITS_ROOM};
+    use crate::errors::Fault;
+
+    #[test]
+    fn numbers_reach_two_to_the_64_less_1() {
+        assert_eq!(number(b"0"), Ok(0));
+        assert_eq!(number(b"24"), Ok(24));
+        assert_eq!(number(b"18446744073709551615"), Ok(u64::MAX));
+        assert_eq!(number(b"18446744073709551616"), Err(Fault::Number));
+        assert_eq!(number(b"18446744073709551620"), Err(Fault::Number));
+        assert_eq!(number(b"99999999999999999999"), Err(Fault::Number));
+        assert_eq!(number(&[b'9'; 1000]), Err(Fault::Number));
+    }
+
+    #[test]
+    fn zeros_in_front_change_no_number() {
+        assert_eq!(number(b"00024"), Ok(24));
+        let mut word = vec![b'0'; 1000];
+        word.extend_from_slice(b"18446744073709551615");
+        assert_eq!(number(&word), Ok(u64::MAX));
+    }
+
+    #[test]
+    fn a_number_has_digits_and_nothing_else() {
+        for word in [
+            &b""[..],
+            b"-",
+            b"+8",
+            b"-8",
+            b"8.",
+            b"0x8",
+            b"a",
+            b"8\r",
+            b"\xb2",
+            b"8\0",
+        ] {
+            assert_eq!(number(word), Err(Fault::Number));
+        }
+    }
+
+    #[test]
+    fn bits_are_digits_or_pairs_or_none() {
+        assert_eq!(bits(b"-"), Ok(vec![]));
+        assert_eq!(bits(b"0"), Ok(vec![0]));
+        assert_eq!(bits(b"0123456789"), Ok((0..10).collect()));
+        assert_eq!(bits(b"x:0001ff"), Ok(vec![0, 1, 255]));
+        assert_eq!(bits(b"x:09aAfF"), Ok(vec![0x09, 0xaa, 0xff]));
+        assert_eq!(bits(b"x:"), Ok(vec![]));
+    }
+
+    #[test]
+    fn every_octet_can_be_written_as_a_pair() {
+        for octet in 0..=255u8 {
+            assert_eq!(bits(format!("x:{octet:02x}").as_bytes()), Ok(vec![octet]));
+            assert_eq!(bits(format!("x:{octet:02X}").as_bytes()), Ok(vec![octet]));
+        }
+    }
+
+    #[test]
+    fn every_other_character_is_refused_as_a_digit() {
+        for character in 0..=255u8 {
+            let known = character.is_ascii_digit();
+            assert_eq!(bits(&[b'1', character, b'1']).is_ok(), known);
+            let known = character.is_ascii_hexdigit();
+            assert_eq!(bits(&[b'x', b':', character, b'1']).is_ok(), known);
+            assert_eq!(bits(&[b'x', b':', b'1', character]).is_ok(), known);
+        }
+    }
+
+    #[test]
+    fn broken_bits_are_refused() {
+        for word in [
+            &b"--"[..],
+            b"-1",
+            b"1-",
+            b"x",
+            b"x1",
+            b"X:01",
+            b"x:0",
+            b"x:010",
+            b"x:x:",
+            b"x:-",
+            b"0x:01",
+            b"1a",
+            b"x:0g",
+            b"x:+1",
+            b"1\r",
+        ] {
+            assert_eq!(bits(word), Err(Fault::Bits));
+        }
+    }
+
+    #[test]
+    fn bits_have_room_for_their_octets() {
+        let digits = |count: usize| vec![b'1'; count];
+        let pairs = |digits: usize| [&b"x:"[..], &vec![b'0'; digits]].concat();
+        assert_eq!(bits(&digits(BITS_ROOM)).unwrap().len(), BITS_ROOM);
+        assert_eq!(bits(&digits(BITS_ROOM + 1)), Err(Fault::Long));
+        assert_eq!(bits(&pairs(2 * BITS_ROOM)).unwrap().len(), BITS_ROOM);
+        assert_eq!(bits(&pairs(2 * BITS_ROOM - 1)), Err(Fault::Bits));
+        assert_eq!(bits(&pairs(2 * BITS_ROOM + 1)), Err(Fault::Long));
+        assert_eq!(bits(&pairs(2 * BITS_ROOM + 2)), Err(Fault::Long));
+        assert_eq!(bits(&pairs(2 * BITS_ROOM + 3)), Err(Fault::Long));
+    }
+
+    #[test]
+    fn too_many_octets_go_before_another_character() {
+        assert_eq!(bits(&vec![b'z'; BITS_ROOM]), Err(Fault::Bits));
+        assert_eq!(bits(&vec![b'z'; BITS_ROOM + 1]), Err(Fault::Long));
+    }
+}
