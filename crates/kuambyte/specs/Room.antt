@@ -6,7 +6,7 @@ use Rattle.requests.specs.Room.{Roomy}
 use Rattle.kuambyte.specs.declared.replay.Reading.{Reading}
 
 -- what is held lies within the line, and what waits within the output, which has room for an answer once nothing waits
-pub record Stands (r : Reading) (line out : List ℕ) : Type 0 where
+pub record Stands (r : Reading) (line lent out : List ℕ) : Type 0 where
   pub held : r .held ≤ length line
   pub waiting : r .waiting ≤ length out
-  pub room : Roomy 0 out
+  pub room : Roomy 0 lent out

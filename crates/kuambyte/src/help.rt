@@ -10,9 +10,15 @@ pub fn print() {
   kuambyte replay   read requests, one to a line, and write an answer to each
   kuambyte help     write this help
 
-Requests:
+Requests, and what is answered behind the number:
 
-  crc WIDTH BITS    the answered number and the checksum of the bits
+  crc WIDTH BITS                     the checksum of the bits
+  profile RECORD                     nothing: the number says whether the record is a profile
+  plan RECORD OCTETS                 how a block of so many octets is cut: B, C, K and z
+  encode RECORD Z PLACES OUTLEN      the places of a code block, with its parity bits
+  check RECORD Z BITS                1 if the bits are a word that checks, else 0
+  rate E PLACES OUTLEN               the bits that are sent of a coded block
+  send RECORD BLOCK NL QM G OUTLEN   the bits that are sent of a block
 
 docs/REQUESTS.md describes requests, their words and the answers.
 ",

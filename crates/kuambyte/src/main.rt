@@ -2,7 +2,7 @@
 mod help;
 mod replay;
 
-use requests::octets;
+use text::octets;
 
 fn run(command: &[u8]) {
     if octets::same(command, b"replay") {

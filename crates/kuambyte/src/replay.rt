@@ -2,9 +2,8 @@
 use libc::STDIN_FILENO;
 use libc::STDOUT_FILENO;
 use requests::answers;
-use requests::answers::ANSWER_ROOM;
 use requests::lines;
-use requests::octets;
+use text::octets;
 ghost use Prim.Native.Nat.{_≤_, _<_};
 ghost use mathlib.Core.Path.{_≡_};
 ghost use lib.ListN.{length};
@@ -13,10 +12,16 @@ ghost use Rattle.requests.specs.Room.{Roomy};
 
 // The octets of the longest line, its newline not counted.
 const LINE_ROOM: usize = 600_000;
-// The octets of the longest word of bits, which is all that a request has to store.
+// The octets of the longest record, of the longest word of bits, and of the longest output that is
+// lent to a call.
+const RECORD_ROOM: usize = 70_000;
+
 const BITS_ROOM: usize = 140_000;
-// The octets of answers that wait to be written together.
-const OUT_ROOM: usize = 65_536;
+
+const LENT_ROOM: usize = 140_000;
+// The octets of answers that wait to be written together: one has up to two digits for each octet
+// that is lent.
+const OUT_ROOM: usize = 400_000;
 
 // How far reading has come.
 pub struct Reading {
@@ -32,16 +37,32 @@ pub struct Reading {
 
 pub fn replay() {
     let mut line = [0u8; LINE_ROOM];
-    let mut store = [0u8; BITS_ROOM];
+    let mut record = [0u8; RECORD_ROOM];
+    let mut bits = [0u8; BITS_ROOM];
+    let mut lent = [0u8; LENT_ROOM];
     let mut chunk = io::large_buffer();
     let mut out = [0u8; OUT_ROOM];
-    read_all(&mut line, &mut store, &mut chunk, &mut out);
+    read_all(
+        &mut line,
+        &mut record,
+        &mut bits,
+        &mut lent,
+        &mut chunk,
+        &mut out,
+    );
 }
 
 // A proved loop has to end, and nothing says that the input does. So the turns are counted down
 // from a number that no run uses up.
-fn read_all(line: &mut [u8], store: &mut [u8], chunk: &mut [u8], out: &mut [u8])
-    requires { ⌜ (0 < length (now chunk)) × Roomy 0 (now out) ⌝ }
+fn read_all(
+    line: &mut [u8],
+    record: &mut [u8],
+    bits: &mut [u8],
+    lent: &mut [u8],
+    chunk: &mut [u8],
+    out: &mut [u8],
+)
+    requires { ⌜ (0 < length (now chunk)) × Roomy 0 (now lent) (now out) ⌝ }
 {
     let mut reading = Reading {
         held: 0,
@@ -51,7 +72,7 @@ fn read_all(line: &mut [u8], store: &mut [u8], chunk: &mut [u8], out: &mut [u8])
     };
     let mut turns = u64::MAX;
     while turns > 0 {
-        reading = read_some(line, store, chunk, out, reading);
+        reading = read_some(line, record, bits, lent, chunk, out, reading);
         if reading.done {
             return;
         }
@@ -62,17 +83,19 @@ fn read_all(line: &mut [u8], store: &mut [u8], chunk: &mut [u8], out: &mut [u8])
 // Reads once, and answers each line that has ended.
 fn read_some(
     line: &mut [u8],
-    store: &mut [u8],
+    record: &mut [u8],
+    bits: &mut [u8],
+    lent: &mut [u8],
     chunk: &mut [u8],
     out: &mut [u8],
     reading: Reading,
 ) -> Reading
-    requires { ⌜ (0 < length (now chunk)) × Stands reading (now line) (now out) ⌝ }
-    ensures { λ r. ⌜ Stands r (now (line .entry)) (now (out .entry)) ⌝ }
+    requires { ⌜ (0 < length (now chunk)) × Stands reading (now line) (now lent) (now out) ⌝ }
+    ensures { λ r. ⌜ Stands r (now (line .entry)) (now (lent .entry)) (now (out .entry)) ⌝ }
 {
     let got = libc::read(STDIN_FILENO, chunk);
     let n = received(got, chunk);
-    let after = answer_lines(&chunk[0..n], line, store, out, reading);
+    let after = answer_lines(&chunk[0..n], line, record, bits, lent, out, reading);
     finish(got, out, after)
 }
 
@@ -109,12 +132,14 @@ fn finish(got: isize, out: &[u8], reading: Reading) -> Reading
 fn answer_lines(
     chunk: &[u8],
     line: &mut [u8],
-    store: &mut [u8],
+    record: &mut [u8],
+    bits: &mut [u8],
+    lent: &mut [u8],
     out: &mut [u8],
     mut reading: Reading,
 ) -> Reading
-    requires { ⌜ Stands reading (now line) (now out) ⌝ }
-    ensures { λ r. ⌜ Stands r (now (line .entry)) (now (out .entry)) ⌝ }
+    requires { ⌜ Stands reading (now line) (now lent) (now out) ⌝ }
+    ensures { λ r. ⌜ Stands r (now (line .entry)) (now (lent .entry)) (now (out .entry)) ⌝ }
 {
     let mut from = 0;
     while from < chunk.len() {
@@ -123,7 +148,7 @@ fn answer_lines(
         if end == chunk.len() {
             return reading;
         }
-        reading = answer_line(line, store, out, reading);
+        reading = answer_line(line, record, bits, lent, out, reading);
         if reading.done {
             return reading;
         }
@@ -147,30 +172,37 @@ fn hold(piece: &[u8], line: &mut [u8], mut reading: Reading) -> Reading
 }
 
 // Answers the line that is held, and begins the next.
-fn answer_line(line: &[u8], store: &mut [u8], out: &mut [u8], reading: Reading) -> Reading
-    requires { ⌜ Stands reading (now line) (now out) ⌝ }
-    ensures { λ r. ⌜ Stands r (now (line .entry)) (now (out .entry)) ⌝ }
+fn answer_line(
+    line: &[u8],
+    record: &mut [u8],
+    bits: &mut [u8],
+    lent: &mut [u8],
+    out: &mut [u8],
+    reading: Reading,
+) -> Reading
+    requires { ⌜ Stands reading (now line) (now lent) (now out) ⌝ }
+    ensures { λ r. ⌜ Stands r (now (line .entry)) (now (lent .entry)) (now (out .entry)) ⌝ }
 {
-    let ready = with_room(out, reading);
+    let ready = with_room(lent, out, reading);
     if ready.done {
         return ready;
     }
     let held = ready.held;
-    let answer = lines::answer(&line[0..held], ready.long, store);
+    let answer = lines::answer(&line[0..held], ready.long, record, bits, lent);
     Reading {
         held: 0,
         long: false,
-        waiting: answers::put(answer, out, ready.waiting),
+        waiting: answers::put(answer, lent, out, ready.waiting),
         done: false,
     }
 }
 
 // Makes room for one more answer.
-fn with_room(out: &[u8], reading: Reading) -> Reading
-    requires { ⌜ (reading .waiting ≤ length (now out)) × Roomy 0 (now out) ⌝ }
-    ensures { λ r. ⌜ (r .held ≡ reading .held) × Roomy (r .waiting) (now (out .entry)) ⌝ }
+fn with_room(lent: &[u8], out: &[u8], reading: Reading) -> Reading
+    requires { ⌜ (reading .waiting ≤ length (now out)) × Roomy 0 (now lent) (now out) ⌝ }
+    ensures { λ r. ⌜ (r .held ≡ reading .held) × Roomy (r .waiting) (now (lent .entry)) (now (out .entry)) ⌝ }
 {
-    if out.len() - reading.waiting < ANSWER_ROOM {
+    if out.len() - reading.waiting < answers::room(lent) {
         return flush(out, reading);
     }
     reading

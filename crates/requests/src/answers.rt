@@ -1,48 +1,77 @@
 // Answers, and how they are put into the output.
-use crate::octets;
-use crate::words;
-ghost use Prim.Native.Nat.{_+_, _≤_};
+use profile::Plan;
+use text::faults::Fault;
+use text::numbers;
+use text::octets;
+use text::shown;
+use text::shown::Shown;
+use text::words;
+ghost use Prim.Native.Nat.{_+_, _*_, _^_, _≤_, _<_};
+ghost use mathlib.Core.Path.{_≡_};
 ghost use lib.ListN.{length};
 ghost use Rattle.requests.specs.Room.{Roomy};
 
-// The octets that an answer may have: 140,000 bits in hexadecimal, and some numbers before them.
-// specs/Room.antt has the same number.
-pub const ANSWER_ROOM: usize = 40_000;
-
-// Why a line is no request.
-pub enum Fault {
-    Request,
-    Words,
-    Number,
-    Long,
-    Bits,
-}
+// The octets of an answer's numbers and words; a plan has the most. specs/Room.antt has the same
+// number.
+const NUMBERS_ROOM: usize = 128;
 
 // What a line is answered.
 pub enum Answer {
     // A comment or a blank line has no answer.
     Nothing,
     Error(Fault),
-    Sum { number: u32, value: u32 },
+    Number(u32),
+    Sum {
+        number: u32,
+        value: u32,
+    },
+    Plan(Plan),
+    Verdict {
+        number: u32,
+        checks: bool,
+    },
+    // So many octets of what was lent.
+    Written {
+        shown: Shown,
+        number: u32,
+        count: usize,
+    },
 }
 
-// Puts an answer's line into the output, and answers the place behind it.
-pub fn put(answer: Answer, out: &mut [u8], at: usize) -> usize
-    requires { ⌜ Roomy at (now out) ⌝ }
+// The octets that an answer may have, with the digits of all that was lent.
+pub fn room(lent: &[u8]) -> usize
+    requires { ⌜ 2 * length (now lent) + 128 < 2 ^ 64 ⌝ }
+    ensures { λ r. ⌜ r ≡ 2 * length (now (lent .entry)) + 128 ⌝ }
+{
+    lent.len() * 2 + NUMBERS_ROOM
+}
+
+// Puts an answer's line into the output, and answers the place behind it. What was lent to a call
+// has the octets that the call wrote.
+pub fn put(answer: Answer, lent: &[u8], out: &mut [u8], at: usize) -> usize
+    requires { ⌜ Roomy at (now lent) (now out) ⌝ }
     ensures { λ r. ⌜ r ≤ length (now (out .entry)) ⌝ }
 {
     match answer {
         Answer::Nothing => at,
         Answer::Error(why) => error(why, out, at),
+        Answer::Number(number) => alone(number, out, at),
         Answer::Sum { number, value } => sum(number, value, out, at),
+        Answer::Plan(cut) => plan(cut, out, at),
+        Answer::Verdict { number, checks } => verdict(number, checks, out, at),
+        Answer::Written {
+            shown,
+            number,
+            count,
+        } => written(shown, number, octets::first(lent, count), out, at),
     }
 }
 
 fn error(why: Fault, out: &mut [u8], at: usize) -> usize
-    requires { ⌜ Roomy at (now out) ⌝ }
+    requires { ⌜ at + 128 ≤ length (now out) ⌝ }
     ensures { λ r. ⌜ r ≤ length (now (out .entry)) ⌝ }
 {
-    let word = words::word(b"request words number long bits", place(why));
+    let word = words::word(b"request words number long bits hex output", place(why));
     let next = octets::put(b"error ", out, at);
     let end = octets::put(word, out, next);
     octets::put_one(b'\n', out, end)
@@ -56,34 +85,57 @@ fn place(why: Fault) -> usize {
         Fault::Number => 2,
         Fault::Long => 3,
         Fault::Bits => 4,
+        Fault::Hex => 5,
+        Fault::Output => 6,
     }
 }
 
-fn sum(number: u32, value: u32, out: &mut [u8], at: usize) -> usize
-    requires { ⌜ Roomy at (now out) ⌝ }
+fn alone(number: u32, out: &mut [u8], at: usize) -> usize
+    requires { ⌜ at + 128 ≤ length (now out) ⌝ }
     ensures { λ r. ⌜ r ≤ length (now (out .entry)) ⌝ }
 {
-    let space = decimal(number as u64, out, at);
-    let next = octets::put_one(b' ', out, space);
-    let end = hexadecimal(value as u64, out, next);
+    let end = numbers::decimal(number as u64, out, at);
     octets::put_one(b'\n', out, end)
 }
 
-fn decimal(n: u64, out: &mut [u8], at: usize) -> usize
-    requires { ⌜ at + 20 ≤ length (now out) ⌝ }
-    ensures { λ r. ⌜ r ≤ at + 20 ⌝ }
+fn sum(number: u32, value: u32, out: &mut [u8], at: usize) -> usize
+    requires { ⌜ at + 128 ≤ length (now out) ⌝ }
+    ensures { λ r. ⌜ r ≤ length (now (out .entry)) ⌝ }
 {
-    let mut text = [0u8; 20];
-    let k = io::decimal(n, &mut text);
-    octets::put(&text[..k], out, at)
+    let space = numbers::decimal(number as u64, out, at);
+    let next = octets::put_one(b' ', out, space);
+    let end = numbers::hexadecimal(value as u64, out, next);
+    octets::put_one(b'\n', out, end)
 }
 
-// Without leading zeros.
-fn hexadecimal(n: u64, out: &mut [u8], at: usize) -> usize
-    requires { ⌜ at + 16 ≤ length (now out) ⌝ }
-    ensures { λ r. ⌜ r ≤ at + 16 ⌝ }
+fn plan(cut: Plan, out: &mut [u8], at: usize) -> usize
+    requires { ⌜ at + 128 ≤ length (now out) ⌝ }
+    ensures { λ r. ⌜ r ≤ length (now (out .entry)) ⌝ }
 {
-    let mut text = [0u8; 16];
-    let k = io::hex(n, 1, &mut text);
-    octets::put(&text[..k], out, at)
+    let bits = numbers::decimal(cut.number as u64, out, at);
+    let blocks = numbers::next_decimal(cut.bits as u64, out, bits);
+    let places = numbers::next_decimal(cut.blocks as u64, out, blocks);
+    let z = numbers::next_decimal(cut.places as u64, out, places);
+    let end = numbers::next_decimal(cut.z as u64, out, z);
+    octets::put_one(b'\n', out, end)
+}
+
+fn verdict(number: u32, checks: bool, out: &mut [u8], at: usize) -> usize
+    requires { ⌜ at + 128 ≤ length (now out) ⌝ }
+    ensures { λ r. ⌜ r ≤ length (now (out .entry)) ⌝ }
+{
+    let space = numbers::decimal(number as u64, out, at);
+    let end = numbers::next_decimal(checks as u64, out, space);
+    octets::put_one(b'\n', out, end)
+}
+
+fn written(shown: Shown, number: u32, part: &[u8], out: &mut [u8], at: usize) -> usize
+    requires { ⌜ Roomy at (now part) (now out) ⌝ }
+    ensures { λ r. ⌜ r ≤ length (now (out .entry)) ⌝ }
+{
+    let count = numbers::decimal(number as u64, out, at);
+    let space = numbers::next_decimal(part.len() as u64, out, count);
+    let next = octets::put_one(b' ', out, space);
+    let end = shown::put(shown, part, out, next);
+    octets::put_one(b'\n', out, end)
 }

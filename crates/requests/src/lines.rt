@@ -1,12 +1,18 @@
 // Lines: what of one is a request, and what it is answered.
 use crate::answers::Answer;
-use crate::answers::Fault;
 use crate::names;
+use text::faults::Fault;
 ghost use Prim.Native.Nat.{_≤_};
 ghost use lib.ListN.{length};
 
 // Of a line that is too long only the start is here, and a comment has no answer even then.
-pub fn answer(line: &[u8], long: bool, store: &mut [u8]) -> Answer {
+pub fn answer(
+    line: &[u8],
+    long: bool,
+    record: &mut [u8],
+    bits: &mut [u8],
+    lent: &mut [u8],
+) -> Answer {
     if is_comment(line) {
         return Answer::Nothing;
     }
@@ -17,7 +23,7 @@ pub fn answer(line: &[u8], long: bool, store: &mut [u8]) -> Answer {
     if n == 0 {
         return Answer::Nothing;
     }
-    names::answer(&line[0..n], store)
+    names::answer(&line[0..n], record, bits, lent)
 }
 
 fn is_comment(line: &[u8]) -> bool {

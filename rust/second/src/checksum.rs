@@ -16,6 +16,11 @@ pub fn checksum(width: u64, bits: &[u8]) -> Result<u32, Number> {
     Ok(value(&parity_bits(bits, &coefficients(exponents))))
 }
 
+/// "Append the 24 checksum bits of gCRC24A" (document 01, step 1).
+pub fn with_checksum(bits: &[u8]) -> Vec<u8> {
+    [bits, &parity_bits(bits, &coefficients(CRC24A))].concat()
+}
+
 fn exponents(width: u64) -> Option<&'static [usize]> {
     match width {
         24 => Some(CRC24A),
@@ -70,7 +75,7 @@ fn value(bits: &[u8]) -> u32 {
 
 #[cfg(test)]
 mod tests {
-    use super::{checksum, coefficients, exponents, parity_bits, remainder, value};
+    use super::{checksum, coefficients, exponents, parity_bits, remainder, value, with_checksum};
     use crate::numbers::{NO_BIT, PARAMETER};
     use crate::random::Random;
 
@@ -160,6 +165,13 @@ mod tests {
         for width in WIDTHS {
             assert_eq!(checksum(width, &[]), Ok(0));
         }
+    }
+
+    #[test]
+    fn the_transport_checksum_stands_behind_the_bits() {
+        // Document 01, P1.
+        let word = with_checksum(&unpacked(&[0x01]));
+        assert_eq!(word, unpacked(&[0x01, 0x86, 0x4c, 0xfb]));
     }
 
     #[test]

@@ -1,4 +1,4 @@
-//! Why a line is no request (docs/REQUESTS.md, "Errors").
+//! Why a line has no other answer than an error (docs/REQUESTS.md, "Errors").
 
 #[derive(Clone, Copy, Debug, PartialEq, Eq)]
 pub enum Fault {
@@ -7,6 +7,9 @@ pub enum Fault {
     Words,
     Number,
     Bits,
+    Hex,
+    /// The line was a request, and the call wrote where it may not.
+    Output,
 }
 
 impl Fault {
@@ -18,6 +21,8 @@ impl Fault {
             Fault::Words => "words",
             Fault::Number => "number",
             Fault::Bits => "bits",
+            Fault::Hex => "hex",
+            Fault::Output => "output",
         }
     }
 }

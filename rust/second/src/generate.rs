@@ -2,20 +2,40 @@
 
 mod broken;
 mod crc;
+mod hosted;
+mod kinds;
 mod large;
+mod parity;
+mod profile;
+mod rate;
+mod records;
+mod recv;
+mod send;
+mod shelf;
+mod write;
 
 use std::io::{self, Write};
 
 use crate::random::Random;
+pub use kinds::Kind;
+use kinds::KINDS;
 
 /// The very long lines stand apart by this much, so that a file of some thousand stays small.
 const LARGE_EVERY: u64 = 1000;
 
+/// The kinds that are asked for: that of a name, or all of them; none where there is no such name.
+pub fn kinds(name: Option<&str>) -> Option<Vec<&'static Kind>> {
+    match name {
+        Some(name) => Some(vec![kinds::named(name)?]),
+        None => Some(KINDS.iter().collect()),
+    }
+}
+
 /// An odd seed leaves off the last newline: both ends of a file are to be compared.
-pub fn generate(seed: u64, count: u64, output: &mut impl Write) -> io::Result<()> {
+pub fn generate(kinds: &[&Kind], seed: u64, count: u64, output: &mut impl Write) -> io::Result<()> {
     let mut random = Random::new(seed);
     for place in 1..=count {
-        output.write_all(&line(seed, place, &mut random))?;
+        output.write_all(&line(kinds, seed, place, &mut random))?;
         if place < count || seed % 2 == 0 {
             output.write_all(b"\n")?;
         }
@@ -23,17 +43,18 @@ pub fn generate(seed: u64, count: u64, output: &mut impl Write) -> io::Result<()
     Ok(())
 }
 
-fn line(seed: u64, place: u64, random: &mut Random) -> Vec<u8> {
+fn line(kinds: &[&Kind], seed: u64, place: u64, random: &mut Random) -> Vec<u8> {
     if place % LARGE_EVERY == 0 {
         // In turn and not at random, so that few of them already show every kind.
-        return large::line(seed.wrapping_add(place / LARGE_EVERY), random);
+        return large::line(kinds, seed.wrapping_add(place / LARGE_EVERY), random);
     }
+    let kind = random.pick(kinds);
     let mut line = match random.below(10) {
-        0..=3 => crc::accepted(random),
-        4..=5 => crc::refused(random),
-        _ => broken::line(random),
+        0..=3 => write::line(&(kind.done)(random)),
+        4..=7 => write::line(&(kind.refused)(random)),
+        _ => broken::line(kind, random),
     };
-    if random.one_in(6) {
+    if random.one_in(12) {
         add_ending(&mut line, random);
     }
     line
@@ -58,14 +79,14 @@ fn add_ending(line: &mut Vec<u8>, random: &mut Random) {
 
 #[cfg(test)]
 mod tests {
-    use super::generate;
+    use super::{generate, kinds};
     use crate::answer::answer;
     use crate::lines::next_line;
     use std::collections::BTreeMap;
 
-    fn generated(seed: u64, count: u64) -> Vec<u8> {
+    fn generated(kind: Option<&str>, seed: u64, count: u64) -> Vec<u8> {
         let mut output = Vec::new();
-        generate(seed, count, &mut output).unwrap();
+        generate(&kinds(kind).unwrap(), seed, count, &mut output).unwrap();
         output
     }
 
@@ -73,54 +94,99 @@ mod tests {
         output.split(|&octet| octet == b'\n').count() - 1
     }
 
-    /// How often each answer was given, the value of a done request left away.
+    /// How often each number or error was answered, and how often nothing.
     fn answers(mut input: &[u8]) -> BTreeMap<String, usize> {
         let mut counts = BTreeMap::new();
         while let Some(line) = next_line(&mut input).unwrap() {
             let text = answer(&line).unwrap_or_default();
-            let kind = match text.strip_prefix("0 ") {
-                Some(_) => "done".to_string(),
-                None => text,
+            let mut words = text.split(' ');
+            let first = words.next().unwrap_or_default();
+            let kind = match first {
+                "error" => text.clone(),
+                number => number.to_string(),
             };
             *counts.entry(kind).or_default() += 1;
         }
         counts
     }
 
+    /// The numbers that are answered often enough among 3,000 requests of a kind, and the rest of
+    /// the answers.
+    fn numbers_of(kind: &str) -> (Vec<u8>, BTreeMap<String, usize>) {
+        let mut counts = answers(&generated(Some(kind), 2, 3000));
+        let numbers = (0..=15)
+            .filter(|number: &u8| counts.remove(&number.to_string()) > Some(20))
+            .collect();
+        (numbers, counts)
+    }
+
     #[test]
     fn a_seed_gives_the_same_requests_again() {
-        assert_eq!(generated(7, 500), generated(7, 500));
-        assert_ne!(generated(7, 500), generated(9, 500));
+        assert_eq!(generated(None, 7, 500), generated(None, 7, 500));
+        assert_ne!(generated(None, 7, 500), generated(None, 9, 500));
     }
 
     #[test]
     fn as_many_lines_are_written_as_asked() {
-        assert_eq!(newlines(&generated(4, 0)), 0);
-        assert_eq!(newlines(&generated(4, 1)), 1);
-        assert_eq!(newlines(&generated(4, 1000)), 1000);
+        assert_eq!(newlines(&generated(None, 4, 0)), 0);
+        assert_eq!(newlines(&generated(None, 4, 1)), 1);
+        assert_eq!(newlines(&generated(None, 4, 1000)), 1000);
     }
 
     #[test]
     fn an_odd_seed_leaves_off_the_last_newline() {
-        assert_eq!(newlines(&generated(6, 100)), 100);
-        assert_eq!(newlines(&generated(7, 100)), 99);
+        assert_eq!(newlines(&generated(None, 6, 100)), 100);
+        assert_eq!(newlines(&generated(None, 7, 100)), 99);
     }
 
     #[test]
-    fn every_answer_is_asked_for() {
-        let counts = answers(&generated(2, 3000));
+    fn kinds_have_names() {
+        assert_eq!(kinds(Some("plan")).unwrap()[0].name, "plan");
+        assert!(kinds(None).unwrap().len() > 1);
+        assert!(kinds(Some("plans")).is_none());
+    }
+
+    #[test]
+    fn every_number_of_a_kind_is_asked_for() {
+        for (kind, expected) in [
+            ("crc", &[0, 8, 12][..]),
+            ("profile", &[0, 5, 6]),
+            ("plan", &[0, 5, 6, 7, 9]),
+            ("encode", &[0, 5, 6, 8, 11, 12]),
+            ("check", &[0, 5, 6, 8, 12]),
+            ("rate", &[0, 8, 11, 12]),
+            ("send", &[0, 5, 6, 7, 8, 9, 10, 11]),
+            ("recv", &[0, 5, 6, 7, 8, 9, 10, 11, 12, 13, 14]),
+            ("lookup", &[0, 1, 2, 3, 4]),
+            ("hsend", &[0, 1, 2, 3, 4, 5, 6, 7, 8, 9, 10, 11]),
+            ("hrecv", &[0, 1, 2, 3, 4, 5, 6, 7, 8, 9, 10, 11, 12, 13, 14]),
+        ] {
+            let (numbers, others) = numbers_of(kind);
+            assert_eq!(numbers, expected, "{kind}: {others:?}");
+        }
+    }
+
+    #[test]
+    fn a_third_of_what_is_received_is_accepted() {
+        for kind in ["recv", "hrecv"] {
+            let counts = answers(&generated(Some(kind), 4, 900));
+            assert!(counts["0"] > 300, "{kind}: {counts:?}");
+        }
+    }
+
+    #[test]
+    fn every_error_is_asked_for() {
+        let counts = answers(&generated(None, 2, 6000));
         for kind in [
             "",
-            "done",
-            "8 0",
-            "12 0",
             "error request",
             "error words",
             "error number",
             "error bits",
+            "error hex",
         ] {
-            assert!(counts[kind] > 50, "{kind}: {counts:?}");
+            assert!(counts[kind] > 20, "{kind}: {counts:?}");
         }
-        assert!(counts["done"] > 1000, "{counts:?}");
+        assert!(counts["0"] > 2000, "{counts:?}");
     }
 }

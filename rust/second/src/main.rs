@@ -1,25 +1,45 @@
 //! The program `second`: answers requests, or writes requests for comparing two implementations.
 
+mod allocation;
 mod answer;
 mod checksum;
+mod draft;
 mod errors;
 mod generate;
+mod hosted;
 mod lines;
+mod matrix;
 mod numbers;
+mod octets;
+mod output;
+mod parity;
+mod plan;
 mod random;
+mod rate;
+mod receive;
+mod record;
 mod replay;
 mod requests;
+mod samples;
+mod send;
+mod shelf;
+mod transfer;
 mod words;
 
 use std::io::{self, BufWriter, Write};
 use std::process::ExitCode;
 
+use generate::Kind;
+
 const HELP: &str = "\
-second replay               reads requests from standard input, answers each on a line
-second generate SEED COUNT  writes COUNT lines of requests, good, refused and broken;
-                            the same SEED gives the same lines, an odd one leaves off
-                            the last newline, and every 1,000th line is a very long one
-second help                 writes this
+second replay
+    reads requests from standard input and answers each on a line
+second generate SEED COUNT [KIND]
+    writes COUNT lines of requests, good, refused and broken, of all kinds mixed, or only of
+    KIND, which is the name of a request; the same SEED gives the same lines, an odd one
+    leaves off the last newline, and every 1,000th line is a very long one
+second help
+    writes this
 
 docs/REQUESTS.md gives the form of requests and answers.
 ";
@@ -27,7 +47,11 @@ docs/REQUESTS.md gives the form of requests and answers.
 /// What the words after the program's name ask for.
 enum Command {
     Replay,
-    Generate { seed: u64, count: u64 },
+    Generate {
+        kinds: Vec<&'static Kind>,
+        seed: u64,
+        count: u64,
+    },
     Help,
 }
 
@@ -53,20 +77,28 @@ fn command(arguments: &[String]) -> Option<Command> {
     let arguments: Vec<&str> = arguments.iter().map(String::as_str).collect();
     match arguments[..] {
         ["replay"] => Some(Command::Replay),
-        ["generate", seed, count] => Some(Command::Generate {
-            seed: words::number(seed.as_bytes()).ok()?,
-            count: words::number(count.as_bytes()).ok()?,
-        }),
+        ["generate", seed, count] => generate(seed, count, None),
+        ["generate", seed, count, kind] => generate(seed, count, Some(kind)),
         ["help"] => Some(Command::Help),
         _ => None,
     }
 }
 
+fn generate(seed: &str, count: &str, kind: Option<&str>) -> Option<Command> {
+    Some(Command::Generate {
+        kinds: generate::kinds(kind)?,
+        seed: words::number(seed.as_bytes()).ok()?,
+        count: words::number(count.as_bytes()).ok()?,
+    })
+}
+
 fn run(command: &Command) -> io::Result<()> {
     let mut output = BufWriter::new(io::stdout().lock());
-    match *command {
+    match command {
         Command::Replay => replay::replay(&mut io::stdin().lock(), &mut output)?,
-        Command::Generate { seed, count } => generate::generate(seed, count, &mut output)?,
+        Command::Generate { kinds, seed, count } => {
+            generate::generate(kinds, *seed, *count, &mut output)?;
+        }
         Command::Help => output.write_all(HELP.as_bytes())?,
     }
     // A dropped BufWriter would hide a failed write.

@@ -4,8 +4,48 @@ pub type Number = u8;
 
 pub const DONE: Number = 0;
 
-/// A checksum width other than 8, 16 or 24, where a checksum is asked for alone.
+/// The asking tenant is 0.
+pub const TENANT_0: Number = 1;
+
+/// The private shelf is not well formed.
+pub const PRIVATE_SHELF: Number = 2;
+
+/// The public shelf is not well formed.
+pub const PUBLIC_SHELF: Number = 3;
+
+/// Neither shelf has the record.
+pub const NO_RECORD: Number = 4;
+
+/// The profile record is not well formed.
+pub const RECORD: Number = 5;
+
+/// A table is no staircase.
+pub const STAIRCASE: Number = 6;
+
+/// The transport block has not 1 to 2,048 octets.
+pub const BLOCK_LENGTH: Number = 7;
+
+/// A number that is asked for is none of those that there are: N_L, Q_m or G against step 5; in a
+/// call for one part alone a z, a length, a width or an E.
 pub const PARAMETER: Number = 8;
 
-/// An octet over 1 where single bits are taken.
+/// The transport block would be cut into more than 64 code blocks.
+pub const MANY_BLOCKS: Number = 9;
+
+/// There are fewer symbol places than code blocks.
+pub const FEW_PLACES: Number = 10;
+
+/// The output is shorter than what would be written.
+pub const OUTPUT: Number = 11;
+
+/// An octet over 1 where single bits are taken, over 2 where filler marks are taken too.
 pub const NO_BIT: Number = 12;
+
+/// Some block's share has not room for all its coded places less its filler.
+pub const SHORT_SHARE: Number = 13;
+
+/// No block is sent as these bits.
+pub const UNSENT: Number = 14;
+
+/// Some block has no parity bits with which it checks.
+pub const NO_PARITY: Number = 15;

@@ -32,6 +32,16 @@ impl Random {
         self.next().to_le_bytes()[0]
     }
 
+    /// A number below the limit, or now and then two different ones, the lower first.
+    pub fn one_or_two(&mut self, limit: usize) -> Vec<usize> {
+        let (left, right) = (self.below(limit), self.below(limit));
+        if left < right && self.one_in(2) {
+            vec![left, right]
+        } else {
+            vec![left]
+        }
+    }
+
     pub fn pick<T: Copy>(&mut self, choices: &[T]) -> T {
         choices[self.below(choices.len())]
     }
@@ -58,5 +68,19 @@ mod tests {
         }
         assert_eq!(seen, [true; 5]);
         assert_eq!(random.below(1), 0);
+    }
+
+    #[test]
+    fn one_number_or_two_different_ones() {
+        let mut random = Random::new(2);
+        let drawn: Vec<Vec<usize>> = (0..1000).map(|_| random.one_or_two(4)).collect();
+        for numbers in &drawn {
+            assert!(numbers.iter().all(|&number| number < 4));
+            assert!(numbers.len() == 1 || numbers[0] < numbers[1]);
+        }
+        assert!(drawn.iter().filter(|numbers| numbers.len() == 2).count() > 100);
+        for number in 0..4 {
+            assert!(drawn.contains(&vec![number]));
+        }
     }
 }

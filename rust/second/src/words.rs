@@ -2,8 +2,17 @@
 
 use crate::errors::Fault;
 
-/// The most octets that a word of bits stands for.
+/// The most octets that a word of bits or of places stands for.
 pub const BITS_ROOM: usize = 140_000;
+
+/// The most octets of a shelf or a record.
+pub const SHELF_ROOM: usize = 70_000;
+
+/// The most octets of a transport block.
+pub const BLOCK_ROOM: usize = 4_096;
+
+/// The longest output that is lent.
+pub const OUTPUT_ROOM: usize = 140_000;
 
 /// A decimal number. Zeros in front change no value, so any count of them is taken.
 pub fn number(word: &[u8]) -> Result<u64, Fault> {
@@ -21,15 +30,37 @@ pub fn number(word: &[u8]) -> Result<u64, Fault> {
     Ok(value)
 }
 
-/// The octets of a word of bits. They may be over 1: the call that takes them judges that.
+/// A number that fits into two octets.
+pub fn short(word: &[u8]) -> Result<u16, Fault> {
+    u16::try_from(number(word)?).map_err(|_| Fault::Number)
+}
+
+/// The length of an output.
+pub fn length(word: &[u8]) -> Result<usize, Fault> {
+    match usize::try_from(number(word)?) {
+        Ok(length) if length <= OUTPUT_ROOM => Ok(length),
+        _ => Err(Fault::Long),
+    }
+}
+
+/// The octets of a word of bits or of places. They may be over 1, or over 2: the call that takes
+/// them judges that.
 pub fn bits(word: &[u8]) -> Result<Vec<u8>, Fault> {
     if word == b"-" {
         return Ok(Vec::new());
     }
     match word.strip_prefix(b"x:") {
-        Some(digits) => octets_of_pairs(digits),
+        Some(digits) => octets_of_pairs(digits, BITS_ROOM, Fault::Bits),
         None => octets_of_digits(word),
     }
+}
+
+/// Packed octets, as shelves, records and transport blocks are written.
+pub fn hex(word: &[u8], room: usize) -> Result<Vec<u8>, Fault> {
+    if word == b"-" {
+        return Ok(Vec::new());
+    }
+    octets_of_pairs(word, room, Fault::Hex)
 }
 
 fn octets_of_digits(digits: &[u8]) -> Result<Vec<u8>, Fault> {
@@ -42,14 +73,14 @@ fn octets_of_digits(digits: &[u8]) -> Result<Vec<u8>, Fault> {
         .collect()
 }
 
-fn octets_of_pairs(digits: &[u8]) -> Result<Vec<u8>, Fault> {
+fn octets_of_pairs(digits: &[u8], room: usize, broken: Fault) -> Result<Vec<u8>, Fault> {
     // Half an octet at the end would need the room of a whole one.
-    if digits.len().div_ceil(2) > BITS_ROOM {
+    if digits.len().div_ceil(2) > room {
         return Err(Fault::Long);
     }
     digits
         .chunks(2)
-        .map(|pair| octet_of_pair(pair).ok_or(Fault::Bits))
+        .map(|pair| octet_of_pair(pair).ok_or(broken))
         .collect()
 }
 
@@ -77,7 +108,7 @@ fn hexadecimal(character: u8) -> Option<u8> {
 
 #[cfg(test)]
 mod tests {
-    use super::{bits, number, BITS_ROOM};
+    use super::{bits, hex, length, number, short, BITS_ROOM, OUTPUT_ROOM, SHELF_ROOM};
     use crate::errors::Fault;
 
     #[test]
@@ -114,6 +145,38 @@ mod tests {
             b"8\0",
         ] {
             assert_eq!(number(word), Err(Fault::Number));
+        }
+    }
+
+    #[test]
+    fn short_numbers_reach_65_535() {
+        assert_eq!(short(b"0"), Ok(0));
+        assert_eq!(short(b"65535"), Ok(65_535));
+        assert_eq!(short(b"00065535"), Ok(65_535));
+        for word in [
+            &b"65536"[..],
+            b"65537",
+            b"131071",
+            b"4294967296",
+            b"18446744073709551615",
+            b"18446744073709551616",
+            b"-",
+            b"q",
+        ] {
+            assert_eq!(short(word), Err(Fault::Number));
+        }
+    }
+
+    #[test]
+    fn an_output_is_not_longer_than_may_be_lent() {
+        assert_eq!(length(b"0"), Ok(0));
+        assert_eq!(length(b"140000"), Ok(OUTPUT_ROOM));
+        assert_eq!(length(b"000140000"), Ok(OUTPUT_ROOM));
+        for word in [&b"140001"[..], b"1400000", b"18446744073709551615"] {
+            assert_eq!(length(word), Err(Fault::Long));
+        }
+        for word in [&b"18446744073709551616"[..], b"-", b"q", b"-1"] {
+            assert_eq!(length(word), Err(Fault::Number));
         }
     }
 
@@ -186,5 +249,56 @@ mod tests {
     fn too_many_octets_go_before_another_character() {
         assert_eq!(bits(&vec![b'z'; BITS_ROOM]), Err(Fault::Bits));
         assert_eq!(bits(&vec![b'z'; BITS_ROOM + 1]), Err(Fault::Long));
+    }
+
+    #[test]
+    fn packed_octets_are_pairs_or_none() {
+        assert_eq!(hex(b"-", 8), Ok(vec![]));
+        assert_eq!(hex(b"00", 8), Ok(vec![0]));
+        assert_eq!(hex(b"0a1BfF", 8), Ok(vec![0x0a, 0x1b, 0xff]));
+        for octet in 0..=255u8 {
+            assert_eq!(hex(format!("{octet:02x}").as_bytes(), 8), Ok(vec![octet]));
+            assert_eq!(hex(format!("{octet:02X}").as_bytes(), 8), Ok(vec![octet]));
+        }
+    }
+
+    #[test]
+    fn every_other_character_is_refused_in_packed_octets() {
+        for character in 0..=255u8 {
+            let known = character.is_ascii_hexdigit();
+            assert_eq!(hex(&[character, b'1'], 8).is_ok(), known);
+            assert_eq!(hex(&[b'1', character], 8).is_ok(), known);
+        }
+    }
+
+    #[test]
+    fn broken_packed_octets_are_refused() {
+        for word in [
+            &b"--"[..],
+            b"-0",
+            b"0",
+            b"000",
+            b"x:00",
+            b"0x00",
+            b"00-",
+            b"0g",
+            b"00\r",
+            b"\xef\xbc\x90",
+        ] {
+            assert_eq!(hex(word, 8), Err(Fault::Hex));
+        }
+    }
+
+    #[test]
+    fn packed_octets_have_room() {
+        let digits = |count: usize| vec![b'0'; count];
+        for room in [1, 7, SHELF_ROOM] {
+            assert_eq!(hex(&digits(2 * room), room).unwrap().len(), room);
+            assert_eq!(hex(&digits(2 * room - 1), room), Err(Fault::Hex));
+            assert_eq!(hex(&digits(2 * room + 1), room), Err(Fault::Long));
+            assert_eq!(hex(&digits(2 * room + 2), room), Err(Fault::Long));
+            assert_eq!(hex(&vec![b'z'; 2 * room], room), Err(Fault::Hex));
+            assert_eq!(hex(&vec![b'z'; 2 * room + 2], room), Err(Fault::Long));
+        }
     }
 }

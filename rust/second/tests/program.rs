@@ -23,6 +23,26 @@ fn chosen_requests_are_answered_as_recorded() {
 }
 
 #[test]
+fn the_examples_of_the_format_are_answered_as_it_says() {
+    let page = Path::new(env!("CARGO_MANIFEST_DIR")).join("../../docs/REQUESTS.md");
+    let text = fs::read_to_string(&page).unwrap();
+    let examples: Vec<&str> = text
+        .lines()
+        .filter_map(|line| line.strip_prefix("    "))
+        .collect();
+    assert_eq!(examples.len(), 11, "one for each request");
+    let file = Path::new(env!("CARGO_TARGET_TMPDIR")).join("examples");
+    fs::write(&file, examples.join("\n")).unwrap();
+    let output = second(&["replay"], File::open(&file).unwrap().into());
+    let answers = String::from_utf8(output.stdout).unwrap();
+    let expected: Vec<&str> = examples
+        .iter()
+        .map(|line| line.split_once(" # ").unwrap().1)
+        .collect();
+    assert_eq!(answers.lines().collect::<Vec<&str>>(), expected);
+}
+
+#[test]
 fn help_says_what_there_is() {
     let output = second(&["help"], Stdio::null());
     let text = String::from_utf8(output.stdout).unwrap();
@@ -40,6 +60,20 @@ fn generate_writes_lines() {
 }
 
 #[test]
+fn generate_writes_lines_of_one_kind() {
+    for kind in [
+        "crc", "profile", "plan", "encode", "check", "rate", "send", "recv", "lookup", "hsend",
+        "hrecv",
+    ] {
+        let output = second(&["generate", "2", "50", kind], Stdio::null());
+        let text = String::from_utf8_lossy(&output.stdout);
+        let begin = format!("{kind} ");
+        let count = text.lines().filter(|line| line.starts_with(&begin)).count();
+        assert!(count > 25, "{kind}: {count}");
+    }
+}
+
+#[test]
 fn other_commands_are_refused() {
     for arguments in [
         &[][..],
@@ -50,6 +84,8 @@ fn other_commands_are_refused() {
         &["generate", "one", "1"],
         &["generate", "1", "18446744073709551616"],
         &["generate", "1", "1", "1"],
+        &["generate", "1", "1", "plans"],
+        &["generate", "1", "1", "plan", "plan"],
         &["help", "me"],
     ] {
         let output = second(arguments, Stdio::null());

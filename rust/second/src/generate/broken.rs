@@ -1,81 +1,126 @@
 //! Lines that are no request, or only just one.
 
-use super::crc;
+use super::kinds::{Kind, Word};
+use super::write::{self, Words};
 use crate::random::Random;
 
-pub fn line(random: &mut Random) -> Vec<u8> {
-    match random.below(8) {
-        0 => no_answer(random),
-        1 => other_name(random),
-        2 => other_count_of_words(random),
-        3 => doubled_space(random),
-        4 => number_at_the_edge(random),
-        5 => bits_at_the_edge(random),
-        6 => any_characters(random),
-        _ => one_change(random),
+pub fn line(kind: &Kind, random: &mut Random) -> Vec<u8> {
+    match random.below(9) {
+        0 => no_answer(kind, random),
+        1 => other_name(kind, random),
+        2 => other_count_of_words(kind, random),
+        3 => doubled_space(kind, random),
+        4..=5 => words_at_the_edge(kind, random),
+        6 => any_characters(kind, random),
+        _ => one_change(kind, random),
     }
 }
 
 /// Blank lines and comments.
-fn no_answer(random: &mut Random) -> Vec<u8> {
-    let lines: [&[u8]; 8] = [
+fn no_answer(kind: &Kind, random: &mut Random) -> Vec<u8> {
+    let request = write::line(&(kind.done)(random));
+    let fronts: [&[u8]; 8] = [
         b"",
         b" ",
         b"      ",
         b"#",
-        b"# crc 8 1",
+        b"# ",
         b"#\xff\0 #",
         b" #",
-        b"   # crc 8 1",
+        b"   # ",
     ];
-    random.pick(&lines).to_vec()
+    let front = random.pick(&fronts);
+    if front.contains(&b'#') {
+        [front, &request].concat()
+    } else {
+        front.to_vec()
+    }
 }
 
-fn other_name(random: &mut Random) -> Vec<u8> {
-    let names: [&[u8]; 12] = [
-        b"CRC",
-        b"Crc",
-        b"cr",
-        b"crcs",
-        b"crc24",
-        b"crc\t",
-        b"crc\0",
-        b"\xef\xbb\xbfcrc",
-        b"",
-        b" ",
-        b"24",
-        b"-",
+fn other_name(kind: &Kind, random: &mut Random) -> Vec<u8> {
+    let name = kind.name.as_bytes();
+    let names = [
+        name.to_ascii_uppercase(),
+        [&name[..1].to_ascii_uppercase(), &name[1..]].concat(),
+        name[..name.len() - 1].to_vec(),
+        [name, b"s"].concat(),
+        [name, b"24"].concat(),
+        [name, b"\t"].concat(),
+        [name, b"\0"].concat(),
+        [b"\xef\xbb\xbf", name].concat(),
+        b"".to_vec(),
+        b" ".to_vec(),
+        b"24".to_vec(),
+        b"-".to_vec(),
     ];
-    let mut line = random.pick(&names).to_vec();
+    let name = names[random.below(names.len())].clone();
     if random.one_in(4) {
-        return line;
+        return name;
     }
-    line.extend_from_slice(&crc::accepted(random)[b"crc".len()..]);
-    line
+    let mut words = (kind.done)(random);
+    words[0] = name;
+    write::line(&words)
 }
 
-fn other_count_of_words(random: &mut Random) -> Vec<u8> {
-    let few: [&[u8]; 6] = [b"crc", b"crc ", b"crc 8", b"crc 8 ", b"crc q", b"crc #8 1"];
-    let more: [&[u8]; 5] = [b" 1", b" -", b" q", b" 1 1", b" x: #"];
-    if random.one_in(2) {
-        return random.pick(&few).to_vec();
+fn other_count_of_words(kind: &Kind, random: &mut Random) -> Vec<u8> {
+    let mut words = (kind.done)(random);
+    match random.below(4) {
+        0 => words.truncate(1 + random.below(kind.words.len())),
+        1 => drop(words.remove(1 + random.below(kind.words.len()))),
+        2 => words.push(words[words.len() - 1].clone()),
+        _ => {
+            let more: [&[u8]; 6] = [b"1", b"-", b"q", b"1 1", b"x: #", b"#1 1"];
+            let place = 1 + random.below(words.len());
+            words.insert(place, random.pick(&more).to_vec());
+        }
     }
-    let mut line = crc::accepted(random);
-    line.extend_from_slice(random.pick(&more));
+    let mut line = write::line(&words);
+    if random.one_in(4) {
+        line.push(b' ');
+    }
     line
 }
 
 /// One of the spaces of a request written twice or more, or spaces in front.
-fn doubled_space(random: &mut Random) -> Vec<u8> {
-    let line = crc::accepted(random);
-    let width_end = line.iter().rposition(|&octet| octet == b' ').unwrap_or(0);
-    let place = random.pick(&[0, b"crc".len(), width_end]);
-    let spaces = vec![b' '; 1 + random.below(3)];
-    [&line[..place], &spaces, &line[place..]].concat()
+fn doubled_space(kind: &Kind, random: &mut Random) -> Vec<u8> {
+    let mut words = (kind.done)(random);
+    let place = random.below(words.len());
+    let mut spaces = vec![b' '; 1 + random.below(3)];
+    spaces.append(&mut words[place]);
+    words[place] = spaces;
+    write::line(&words)
 }
 
-fn number_at_the_edge(random: &mut Random) -> Vec<u8> {
-    let numbers: [&[u8]; 20] = [
+/// One word at the edge of what it may be, or two, so that the order of the errors is compared.
+fn words_at_the_edge(kind: &Kind, random: &mut Random) -> Vec<u8> {
+    let mut words = random.pick(&[kind.done, kind.done, kind.refused])(random);
+    for _ in 0..random.pick(&[1, 1, 2]) {
+        let place = random.below(kind.words.len());
+        words[1 + place] = word_at_the_edge(kind.words[place], random);
+    }
+    write::line(&words)
+}
+
+fn word_at_the_edge(word: Word, random: &mut Random) -> Vec<u8> {
+    let number = number_at_the_edge(random);
+    let bits = bits_at_the_edge(random);
+    let hex = hex_at_the_edge(random);
+    let own = match word {
+        Word::Number => number,
+        Word::Bits => bits,
+        Word::Hex(_) => hex,
+    };
+    // Now and then a word of another kind.
+    match random.below(8) {
+        0 => number.to_vec(),
+        1 => bits.to_vec(),
+        2 => hex.to_vec(),
+        _ => own.to_vec(),
+    }
+}
+
+fn number_at_the_edge(random: &mut Random) -> &'static [u8] {
+    let numbers: [&[u8]; 28] = [
         b"18446744073709551615",
         b"18446744073709551616",
         b"18446744073709551617",
@@ -87,6 +132,14 @@ fn number_at_the_edge(random: &mut Random) -> Vec<u8> {
         b"99999999999999999999",
         b"340282366920938463463374607431768211480",
         b"000000000000000000000000000000008",
+        b"65535",
+        b"65536",
+        b"0065535",
+        b"139999",
+        b"140000",
+        b"140001",
+        b"4294967296",
+        b"4294967297",
         b"+8",
         b"-8",
         b"-",
@@ -97,39 +150,88 @@ fn number_at_the_edge(random: &mut Random) -> Vec<u8> {
         b"\xd9\xa8",
         b"eight",
     ];
-    // Some of the bits are broken too, so that the order of the errors is compared.
-    let bits: [&[u8]; 5] = [b"1", b"-", b"2", b"q", b"x:0"];
-    joined(&[b"crc", random.pick(&numbers), random.pick(&bits)])
+    random.pick(&numbers)
 }
 
-fn bits_at_the_edge(random: &mut Random) -> Vec<u8> {
-    let words: [&[u8]; 20] = [
-        b"x:", b"x:0", b"x:010", b"x:01020", b"x:0g", b"x:g0", b"x:0001:", b"x:x:", b"x:-",
-        b"X:01", b"x", b"x01", b"0x:01", b"--", b"-1", b"1-", b"1,0", b"0a", b"/", b":",
+fn bits_at_the_edge(random: &mut Random) -> &'static [u8] {
+    let words: [&[u8]; 24] = [
+        b"-",
+        b"x:",
+        b"0",
+        b"2",
+        b"x:0",
+        b"x:010",
+        b"x:01020",
+        b"x:0g",
+        b"x:g0",
+        b"x:0001:",
+        b"x:x:",
+        b"x:-",
+        b"X:01",
+        b"x",
+        b"x01",
+        b"0x:01",
+        b"--",
+        b"-1",
+        b"1-",
+        b"1,0",
+        b"0a",
+        b"/",
+        b":",
+        b"\xef\xbc\x91",
     ];
-    let widths: [&[u8]; 4] = [b"8", b"16", b"24", b"7"];
-    joined(&[b"crc", random.pick(&widths), random.pick(&words)])
+    random.pick(&words)
 }
 
-fn joined(words: &[&[u8]]) -> Vec<u8> {
-    words.join(&b' ')
+fn hex_at_the_edge(random: &mut Random) -> &'static [u8] {
+    let words: [&[u8]; 20] = [
+        b"-",
+        b"00",
+        b"0000",
+        b"fF",
+        b"0",
+        b"000",
+        b"0000000",
+        b"0g",
+        b"g0",
+        b"0G",
+        b"00x",
+        b"x:00",
+        b"0x00",
+        b"--",
+        b"-0",
+        b"0-",
+        b"00-",
+        b"0,",
+        b"@A",
+        b"\xef\xbc\x90",
+    ];
+    random.pick(&words)
 }
 
 /// Short lines out of the characters that mean something.
-fn any_characters(random: &mut Random) -> Vec<u8> {
+fn any_characters(kind: &Kind, random: &mut Random) -> Vec<u8> {
     let length = random.below(16);
     let tail: Vec<u8> = (0..length)
         .map(|_| random.pick(b"  ##crc0128x:-af"))
         .collect();
-    let heads: [&[u8]; 4] = [b"", b"crc", b"crc ", b"crc 8 "];
-    [random.pick(&heads), &tail].concat()
+    let mut words = (kind.done)(random);
+    words.truncate(random.below(words.len() + 1));
+    let mut line = write::line(&words);
+    if random.one_in(2) {
+        line.push(b' ');
+    }
+    [line, tail].concat()
 }
 
 /// A good request with one octet put in, taken out or changed.
-fn one_change(random: &mut Random) -> Vec<u8> {
-    let mut line = crc::accepted(random);
+fn one_change(kind: &Kind, random: &mut Random) -> Vec<u8> {
+    let words: Words = (kind.done)(random);
+    let mut line = write::line(&words);
     let place = random.below(line.len());
-    let octet = any_but_newline(random);
+    let any = any_but_newline(random);
+    let meaning = random.pick(b" #0123456789abcdefgxX:-");
+    let octet = random.pick(&[any, meaning]);
     match random.below(3) {
         0 => line.insert(place, octet),
         1 => line[place] = octet,

@@ -1,21 +1,31 @@
 //! Well-formed `crc` requests: ones that are done, and ones that are refused with 8 or 12.
 
+use super::kinds::{Kind, Word};
+use super::write::{self, Words};
 use crate::random::Random;
+
+pub const CRC: Kind = Kind {
+    name: "crc",
+    words: &[Word::Number, Word::Bits],
+    done,
+    refused,
+    large: &[],
+};
 
 const WIDTHS: [u64; 3] = [8, 16, 24];
 
-pub fn accepted(random: &mut Random) -> Vec<u8> {
+fn done(random: &mut Random) -> Words {
     let width = random.pick(&WIDTHS);
     let bits = message(random);
     request(width, &bits, random)
 }
 
-pub fn refused(random: &mut Random) -> Vec<u8> {
+fn refused(random: &mut Random) -> Words {
     let mut width = random.pick(&WIDTHS);
     let mut bits = message(random);
     let kind = random.below(3);
     if kind != 0 {
-        spoil(&mut bits, random);
+        spoil(&mut bits, 1, random);
     }
     if kind != 1 {
         width = other_width(random);
@@ -23,16 +33,19 @@ pub fn refused(random: &mut Random) -> Vec<u8> {
     request(width, &bits, random)
 }
 
-fn request(width: u64, bits: &[u8], random: &mut Random) -> Vec<u8> {
-    let zeros = if random.one_in(20) { "000" } else { "" };
-    let mut line = format!("crc {zeros}{width} ").into_bytes();
-    line.extend_from_slice(&written(bits, random));
-    line
+fn request(width: u64, bits: &[u8], random: &mut Random) -> Words {
+    let words = [write::number(width, random), write::bits(bits, random)];
+    write::request(CRC.name, words)
 }
 
-/// Single bits of many lengths, even or mostly of one kind.
+/// Single bits of many lengths.
 fn message(random: &mut Random) -> Vec<u8> {
     let length = length(random);
+    bits(length, random)
+}
+
+/// Single bits, even or mostly of one kind.
+pub fn bits(length: usize, random: &mut Random) -> Vec<u8> {
     let choices: &[u8] = random.pick(&[
         &[0, 1][..],
         &[0, 1],
@@ -53,39 +66,18 @@ fn length(random: &mut Random) -> usize {
     }
 }
 
-/// The bits as digits where no octet is over 9, else as pairs; one form or the other by chance.
-fn written(bits: &[u8], random: &mut Random) -> Vec<u8> {
-    if bits.is_empty() {
-        return b"-".to_vec();
-    }
-    if bits.iter().all(|&octet| octet <= 9) && random.one_in(2) {
-        return bits.iter().map(|octet| b'0' + octet).collect();
-    }
-    pairs(bits, random)
-}
-
-/// `x:` and two digits for each octet, the letters in either case.
-pub fn pairs(bits: &[u8], random: &mut Random) -> Vec<u8> {
-    let mut word = b"x:".to_vec();
-    for octet in bits {
-        for digit in [octet / 16, octet % 16] {
-            let digits = random.pick(&[b"0123456789abcdef", b"0123456789ABCDEF"]);
-            word.push(digits[usize::from(digit)]);
-        }
-    }
-    word
-}
-
-/// Puts an octet over 1 at the start, in the middle, at the end, or anywhere.
-fn spoil(bits: &mut Vec<u8>, random: &mut Random) {
+/// Puts an octet over the highest that may stand there at the start, in the middle, at the end, or
+/// anywhere.
+pub fn spoil(bits: &mut Vec<u8>, highest: u8, random: &mut Random) {
     if bits.is_empty() {
         bits.push(1);
     }
     let last = bits.len() - 1;
     let anywhere = random.below(bits.len());
     let place = random.pick(&[0, last / 2, last.saturating_sub(1), last, anywhere]);
-    let any = random.octet().max(2);
-    bits[place] = random.pick(&[2, 2, 3, 9, 10, 0x11, 0x80, 0x81, 0xff, any]);
+    let next = highest + 1;
+    let any = random.octet().max(next);
+    bits[place] = random.pick(&[next, next, next + 1, 9, 10, 0x11, 0x80, 0x81, 0xff, any]);
 }
 
 /// A width that is none of the three: close to them, or equal to one of them in fewer places.

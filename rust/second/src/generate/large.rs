@@ -1,49 +1,119 @@
-//! Lines at and beyond the room that a line or a word of bits has.
+//! Lines at and beyond the room that a line or a word has.
 
-use super::crc;
+use super::kinds::{Kind, Maker, Word};
+use super::write;
 use crate::lines::LINE_ROOM;
 use crate::random::Random;
 use crate::words::BITS_ROOM;
 
-type Kind = fn(&mut Random) -> Vec<u8>;
+/// What is long in a line.
+#[derive(Clone, Copy)]
+enum Long {
+    /// The whole line is long, and how.
+    Line(fn(&Kind, &mut Random) -> Vec<u8>),
+    /// The word at this place after the name is long, and how.
+    Word(usize, fn(Word, &mut Random) -> Vec<u8>),
+    /// The request is a long one that the kind makes itself.
+    Request(Maker),
+}
 
-const KINDS: [Kind; 20] = [
-    |random| digits(BITS_ROOM, random),
-    |random| digits(BITS_ROOM + 1, random),
-    |random| pairs(BITS_ROOM, b"", random),
-    |random| pairs(BITS_ROOM, b"0", random),
-    |random| pairs(BITS_ROOM + 1, b"", random),
-    |random| pairs(BITS_ROOM + 1, b"0", random),
-    |random| [digits(BITS_ROOM - 1, random), b"2".to_vec()].concat(),
-    |random| [digits(BITS_ROOM - 1, random), b"q".to_vec()].concat(),
-    |random| [digits(BITS_ROOM, random), b"q".to_vec()].concat(),
-    |_| [b"crc 7 ", &vec![b'1'; BITS_ROOM + 1][..]].concat(),
-    |_| [b"crc q ", &vec![b'1'; BITS_ROOM + 1][..]].concat(),
-    |_| [b"crc ", &vec![b'0'; BITS_ROOM + 1][..], b"8 1"].concat(),
-    |_| [b"crc ", &vec![b'9'; BITS_ROOM + 1][..], b" 1"].concat(),
-    |random| filled(b"crc 16 1", b' ', random),
-    |random| filled(b"crc 16 1 # ", b'1', random),
-    |random| filled(b"# ", b'1', random),
-    |random| filled(b"", b' ', random),
-    |random| filled(b"", b'c', random),
-    |random| filled(b"crc 16 ", b'1', random),
+const LINES: [fn(&Kind, &mut Random) -> Vec<u8>; 7] = [
+    |kind, random| filled(&done(kind, random), b' ', random),
+    |kind, random| filled(&[&done(kind, random)[..], b" # "].concat(), b'1', random),
+    |_, random| filled(b"# ", b'1', random),
+    |_, random| filled(b"", b' ', random),
+    |_, random| filled(b"", b'c', random),
+    |kind, random| filled(&done(kind, random), b'0', random),
     beyond_any_buffer,
 ];
 
-/// The kinds follow one another, in the order of the turns.
-pub fn line(turn: u64, random: &mut Random) -> Vec<u8> {
-    let kind = turn % KINDS.len() as u64;
-    KINDS[usize::try_from(kind).expect("there are few kinds")](random)
+const NUMBERS: [fn(Word, &mut Random) -> Vec<u8>; 2] = [
+    |_, _| [&vec![b'0'; BITS_ROOM + 1][..], b"8"].concat(),
+    |_, _| vec![b'9'; BITS_ROOM + 1],
+];
+
+const BITS: [fn(Word, &mut Random) -> Vec<u8>; 9] = [
+    |_, random| digits(BITS_ROOM, random),
+    |_, random| digits(BITS_ROOM + 1, random),
+    |_, random| bits_as_pairs(BITS_ROOM, b"", random),
+    |_, random| bits_as_pairs(BITS_ROOM, b"0", random),
+    |_, random| bits_as_pairs(BITS_ROOM + 1, b"", random),
+    |_, random| bits_as_pairs(BITS_ROOM + 1, b"0", random),
+    |_, random| [&digits(BITS_ROOM - 1, random)[..], b"3"].concat(),
+    |_, random| [&digits(BITS_ROOM - 1, random)[..], b"q"].concat(),
+    |_, random| [&digits(BITS_ROOM, random)[..], b"q"].concat(),
+];
+
+const OCTETS: [fn(Word, &mut Random) -> Vec<u8>; 6] = [
+    |word, random| hex(word, 0, b"", random),
+    |word, random| hex(word, 0, b"0", random),
+    |word, random| hex(word, 1, b"", random),
+    |word, random| hex(word, 1, b"0", random),
+    |word, random| hex(word, 0, b"q", random),
+    |word, random| hex(word, 0, b"qq", random),
+];
+
+/// The long lines of the kinds follow one another, in the order of the turns.
+pub fn line(kinds: &[&Kind], turn: u64, random: &mut Random) -> Vec<u8> {
+    let all = all(kinds);
+    let place = turn % all.len() as u64;
+    let (kind, long) = all[usize::try_from(place).expect("there are not many")];
+    match long {
+        Long::Line(make) => make(kind, random),
+        Long::Word(place, make) => {
+            let mut words = (kind.done)(random);
+            words[1 + place] = make(kind.words[place], random);
+            write::line(&words)
+        }
+        Long::Request(make) => write::line(&make(random)),
+    }
+}
+
+/// All long lines that there are, the kinds in turn, so that few lines already show each of them.
+fn all<'kinds>(kinds: &[&'kinds Kind]) -> Vec<(&'kinds Kind, Long)> {
+    let lists: Vec<Vec<Long>> = kinds.iter().map(|kind| of_kind(kind)).collect();
+    let longest = lists.iter().map(Vec::len).max().unwrap_or(0);
+    (0..longest)
+        .flat_map(|place| kinds.iter().zip(&lists).map(move |pair| (pair, place)))
+        .filter_map(|((kind, list), place)| list.get(place).map(|&long| (*kind, long)))
+        .collect()
+}
+
+fn of_kind(kind: &Kind) -> Vec<Long> {
+    let lines = LINES.iter().map(|&make| Long::Line(make));
+    let requests = kind.large.iter().map(|&make| Long::Request(make));
+    let words = kind.words.iter().enumerate().flat_map(|(place, word)| {
+        let makers = match word {
+            Word::Number => &NUMBERS[..],
+            Word::Bits => &BITS,
+            Word::Hex(_) => &OCTETS,
+        };
+        makers.iter().map(move |&make| Long::Word(place, make))
+    });
+    requests.chain(words).chain(lines).collect()
+}
+
+fn done(kind: &Kind, random: &mut Random) -> Vec<u8> {
+    write::line(&(kind.done)(random))
 }
 
 fn digits(count: usize, random: &mut Random) -> Vec<u8> {
-    let bits = (0..count).map(|_| random.pick(b"01"));
-    b"crc 24 ".iter().copied().chain(bits).collect()
+    (0..count).map(|_| random.pick(b"01")).collect()
 }
 
-fn pairs(count: usize, end: &[u8], random: &mut Random) -> Vec<u8> {
+fn bits_as_pairs(count: usize, end: &[u8], random: &mut Random) -> Vec<u8> {
     let bits: Vec<u8> = (0..count).map(|_| random.pick(&[0, 1])).collect();
-    [b"crc 24 ", &crc::pairs(&bits, random)[..], end].concat()
+    [&write::bits_as_pairs(&bits, random), end].concat()
+}
+
+/// Packed octets, so many more than there is room for.
+fn hex(word: Word, more: usize, end: &[u8], random: &mut Random) -> Vec<u8> {
+    let room = match word {
+        Word::Hex(room) => room,
+        Word::Number | Word::Bits => BITS_ROOM,
+    };
+    let octets: Vec<u8> = (0..room + more).map(|_| random.octet()).collect();
+    [&write::hex(&octets, random), end].concat()
 }
 
 /// A line as long as may be, or longer by one or two.
@@ -54,29 +124,31 @@ fn filled(text: &[u8], fill: u8, random: &mut Random) -> Vec<u8> {
 }
 
 /// Requests stand in it one behind the other, so that a reader that goes on too early is seen.
-fn beyond_any_buffer(random: &mut Random) -> Vec<u8> {
+fn beyond_any_buffer(kind: &Kind, random: &mut Random) -> Vec<u8> {
     let length = 2 * LINE_ROOM + random.below(LINE_ROOM);
-    b"crc 16 1 ".iter().copied().cycle().take(length).collect()
+    let request = [&done(kind, random)[..], b" "].concat();
+    request.iter().copied().cycle().take(length).collect()
 }
 
 #[cfg(test)]
 mod tests {
-    use super::{line, KINDS};
+    use super::{all, line};
     use crate::answer::answer;
+    use crate::generate::kinds::{named, Kind, KINDS};
     use crate::lines::LINE_ROOM;
     use crate::random::Random;
 
-    /// Several rounds over the kinds, for the lengths that are drawn.
-    fn lines() -> Vec<Vec<u8>> {
+    /// Rounds over the long lines of the kinds, for the lengths that are drawn.
+    fn lines(kinds: &[&Kind], rounds: usize) -> Vec<Vec<u8>> {
         let mut random = Random::new(1);
-        (0..3 * KINDS.len() as u64)
-            .map(|turn| line(turn, &mut random))
+        (0..(rounds * all(kinds).len()) as u64)
+            .map(|turn| line(kinds, turn, &mut random))
             .collect()
     }
 
     #[test]
     fn lines_of_the_full_room_and_beyond_are_among_them() {
-        let lines = lines();
+        let lines = lines(&[named("crc").unwrap()], 3);
         for length in [LINE_ROOM, LINE_ROOM + 1] {
             assert!(lines.iter().any(|line| line.len() == length));
         }
@@ -86,11 +158,12 @@ mod tests {
 
     #[test]
     fn they_are_answered_in_several_ways() {
-        let answers: Vec<Option<String>> = lines().iter().map(|line| answer(line)).collect();
+        let kinds: Vec<&Kind> = KINDS.iter().collect();
+        let lines = lines(&kinds, 1);
+        let answers: Vec<Option<String>> = lines.iter().map(|line| answer(line)).collect();
         for text in [
-            "0 1021",
-            "0 9b",
             "12 0",
+            "5",
             "error long",
             "error request",
             "error number",

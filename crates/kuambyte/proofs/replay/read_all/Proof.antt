@@ -7,10 +7,12 @@ use Rattle.kuambyte.proofs.replay.read_all.Statement.{statement}
 use Rattle.kuambyte.proofs.replay.read_all.Tie as tie
 
 abbrev Inv-loop : tie.InvT-loop
-Inv-loop line₀ store₀ chunk₀ out₀ reading₀ turns₀ line store chunk out reading turns = Stands reading line out × (length line ≡ length line₀) × (length store ≡ length store₀) × (length chunk ≡ length chunk₀) × (length out ≡ length out₀)
+Inv-loop line₀ record₀ bits₀ lent₀ chunk₀ out₀ reading₀ turns₀ line «record» bits lent chunk out reading turns =
+    Stands reading line lent out × (length line ≡ length line₀) × (length «record» ≡ length record₀) × (length bits ≡ length bits₀) × (length lent ≡ length lent₀) × (length chunk ≡ length chunk₀) × (length out ≡ length out₀)
 
 abbrev μ-loop : tie.MeasureT-loop
-μ-loop line₀ store₀ chunk₀ out₀ reading₀ turns₀ line store chunk out reading turns = turns
+μ-loop line₀ record₀ bits₀ lent₀ chunk₀ out₀ reading₀ turns₀ line «record» bits lent chunk out reading turns =
+    turns
 
 loop-holds : tie.Need-loop-holds Inv-loop μ-loop
 loop-holds c = search needs
@@ -30,6 +32,12 @@ same-length-3 c = search needs
 same-length-4 : tie.Need-same-length-4 Inv-loop μ-loop
 same-length-4 c = search needs
 
+same-length-5 : tie.Need-same-length-5 Inv-loop μ-loop
+same-length-5 c = search needs
+
+same-length-6 : tie.Need-same-length-6 Inv-loop μ-loop
+same-length-6 c = search needs
+
 returns : tie.Need-returns Inv-loop μ-loop
 returns c = search needs
 
@@ -42,17 +50,23 @@ loop-less c = search needs
 loop-again : tie.Need-loop-again Inv-loop μ-loop
 loop-again c = search needs
 
-same-length-5 : tie.Need-same-length-5 Inv-loop μ-loop
-same-length-5 c = search needs
-
-same-length-6 : tie.Need-same-length-6 Inv-loop μ-loop
-same-length-6 c = search needs
-
 same-length-7 : tie.Need-same-length-7 Inv-loop μ-loop
 same-length-7 c = search needs
 
 same-length-8 : tie.Need-same-length-8 Inv-loop μ-loop
 same-length-8 c = search needs
+
+same-length-9 : tie.Need-same-length-9 Inv-loop μ-loop
+same-length-9 c = search needs
+
+same-length-10 : tie.Need-same-length-10 Inv-loop μ-loop
+same-length-10 c = search needs
+
+same-length-11 : tie.Need-same-length-11 Inv-loop μ-loop
+same-length-11 c = search needs
+
+same-length-12 : tie.Need-same-length-12 Inv-loop μ-loop
+same-length-12 c = search needs
 
 returns-2 : tie.Need-returns-2 Inv-loop μ-loop
 returns-2 c = search needs
@@ -69,12 +83,16 @@ read-all-spec =
     same-length-2
     same-length-3
     same-length-4
+    same-length-5
+    same-length-6
     returns
     sub-turns
     loop-less
     loop-again
-    same-length-5
-    same-length-6
     same-length-7
     same-length-8
+    same-length-9
+    same-length-10
+    same-length-11
+    same-length-12
     returns-2)

@@ -1,0 +1,91 @@
+-- What the calls answer, by their tests. Assumes nothing.
+use mathlib.Core.Path.{_≡_, refl, sym, _∙_}
+use mathlib.Core.Bool.{Bool, true, false, not}
+use mathlib.Core.List.{List, [], _∷_, _++_}
+use Prim.Native.Nat.{ℕ, zero, suc, _≤_}
+use native.Mathlib.Omega.{arith}
+use borrow.Author.Tests.{ltb-false}
+use lib.Dec.{ltb, lit<}
+use lib.ListN.{length, drop}
+use Rattle.bits.specs.Bits.{someOver}
+use Rattle.bits.specs.Numbers.{answered}
+use Rattle.bits.proofs.Answers.{passed, when-done, when-refused}
+use Rattle.profile.specs.Record.{within, wellFormed}
+use Rattle.profile.specs.Staircase.{staircases}
+use Rattle.profile.specs.Plan.{blockBits, blocks}
+use Rattle.coding.specs.Allocation.{misallocated}
+use Rattle.coding.specs.Matching.{matched}
+use Rattle.coding.specs.Joining.{sent}
+use Rattle.coding.specs.Promises.{unmatchable, matchNumber, RateMatched, tooFewPlaces, someWithoutParity, sendNumber, Sent}
+use Rattle.coding.specs.steps.Sending.{takenNumber}
+
+-- ---- a list of numbers in two parts
+
+first-part : (xs ys : List (ℕ × Bool)) → (answered xs ≡ 0 → ⊥) → answered (xs ++ ys) ≡ answered xs
+unfolding answered
+first-part [] ys n = absurd (n refl)
+first-part ((k, true) ∷ xs) ys n = refl
+first-part ((k, false) ∷ xs) ys n = first-part xs ys n
+
+-- every number of the list is one of a refusal
+Refusals : List (ℕ × Bool) → Type 0
+Refusals [] = Unit
+Refusals ((zero, b) ∷ xs) = ⊥
+Refusals ((suc k, b) ∷ xs) = Refusals xs
+
+last-part : (xs ys : List (ℕ × Bool)) → Refusals xs → answered xs ≡ 0 → answered (xs ++ ys) ≡ answered ys
+unfolding answered Refusals
+last-part [] ys r e = refl
+last-part ((zero, b) ∷ xs) ys r e = absurd r
+last-part ((suc k, true) ∷ xs) ys r e = absurd (omega arith)
+last-part ((suc k, false) ∷ xs) ys r e = last-part xs ys r e
+
+-- ---- rate matching
+
+module _ (coded : List ℕ) (e : ℕ) (out : List ℕ) where
+  pub match-passed : matchNumber coded e (length out) ≡ 0 → (unmatchable coded e ≡ false) × (e ≤ length out)
+  unfolding matchNumber
+  match-passed z =
+      let higher : List (ℕ × Bool) = (12, someOver 2 coded) ∷ [] in
+      let first = passed 8 ((11, ltb (length out) e) ∷ higher) (unmatchable coded e) (lit< tt) z in
+      let second = passed 11 higher (ltb (length out) e) (lit< tt) (first .1) in
+      (first .0, ltb-false (length out) e (second .0))
+
+  module _ (n : ℕ) (found : n ≡ matchNumber coded e (length out)) where
+    pub match-refused : (n ≡ 0 → ⊥) → RateMatched coded e out (record { number = n; count = 0 }) out
+    match-refused h =
+        let refused : matchNumber coded e (length out) ≡ 0 → ⊥ = λ z. h (found ∙ z) in
+        record { number = found; count = sym (when-refused _ e 0 refused); output = sym (when-refused _ (matched coded e ++ drop e out) out refused) }
+
+    pub match-done : n ≡ 0 → (out' : List ℕ) → out' ≡ matched coded e ++ drop e out → RateMatched coded e out (record { number = n; count = e }) out'
+    match-done h out' w =
+        let done : matchNumber coded e (length out) ≡ 0 = sym found ∙ h in
+        record { number = found; count = sym (when-done _ e 0 done); output = w ∙ sym (when-done _ (matched coded e ++ drop e out) out done) }
+
+-- ---- sending
+
+module _ (R block : List ℕ) (nl qm g : ℕ) (out : List ℕ) where
+  -- what is refused before a block is coded is refused so
+  pub send-first : (takenNumber R (length block) nl qm g (length out) ≡ 0 → ⊥)
+      → takenNumber R (length block) nl qm g (length out) ≡ sendNumber R block nl qm g (length out)
+  unfolding takenNumber sendNumber
+  send-first n =
+      sym (first-part
+      ((5, not (wellFormed R)) ∷ (6, not (staircases R)) ∷ (7, not (within 1 2048 (length block))) ∷ (8, misallocated nl qm g)
+      ∷ (9, ltb 64 (blocks R (blockBits (length block)))) ∷ (10, tooFewPlaces R (length block) nl qm g) ∷ (11, ltb (length out) g) ∷ [])
+      ((15, someWithoutParity R block) ∷ []) n)
+
+  -- and where nothing is, 15 is left
+  pub send-last : takenNumber R (length block) nl qm g (length out) ≡ 0
+      → sendNumber R block nl qm g (length out) ≡ answered ((15, someWithoutParity R block) ∷ [])
+  unfolding takenNumber sendNumber Refusals
+  send-last e =
+      last-part
+      ((5, not (wellFormed R)) ∷ (6, not (staircases R)) ∷ (7, not (within 1 2048 (length block))) ∷ (8, misallocated nl qm g)
+      ∷ (9, ltb 64 (blocks R (blockBits (length block)))) ∷ (10, tooFewPlaces R (length block) nl qm g) ∷ (11, ltb (length out) g) ∷ [])
+      ((15, someWithoutParity R block) ∷ []) tt e
+
+  pub send-refused : (n : ℕ) → n ≡ sendNumber R block nl qm g (length out) → (n ≡ 0 → ⊥) → Sent R block nl qm g out (record { number = n; count = 0 }) out
+  send-refused n found h =
+      let refused : sendNumber R block nl qm g (length out) ≡ 0 → ⊥ = λ z. h (found ∙ z) in
+      record { number = found; count = sym (when-refused _ g 0 refused); output = sym (when-refused _ (sent R block nl qm g ++ drop g out) out refused) }

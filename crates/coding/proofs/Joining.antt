@@ -1,0 +1,78 @@
+-- Blocks' bits one behind the other, and what the output holds after a part of it was lent and came back. Assumes nothing.
+use mathlib.Core.Path.{_≡_, refl, sym, ap, ap₂, _∙_}
+use mathlib.Core.List.{List, [], _∷_, _++_, append-assoc, append-nil}
+use Prim.Native.Nat.{ℕ, zero, suc, _+_, _-_, _≤_, _<_}
+use native.Mathlib.Numerals.{add-one}
+use native.Mathlib.Omega.{arith}
+use lib.ListN.{length, getD, take, drop, set, replicate, length-append, length-drop, length-replicate, replicate-append-replicate, drop-of-length-le}
+use lib.Seq.{take-all, take-at, drop-at, drop-drop, drop-cons, set-at}
+use Rattle.bits.specs.Ranges.{sumTo}
+use Rattle.coding.specs.Joining.{joined, padded}
+
+-- ---- a part from a place to the end
+
+-- the part is the rest of the list, and nothing stands behind it
+pub part-rest : (at : ℕ) (xs : List ℕ) → take (length xs - at) (drop at xs) ≡ drop at xs
+part-rest at xs = take-all (length xs - at) (drop at xs) (simp length-drop (omega arith))
+
+part-end : (at : ℕ) (xs : List ℕ) → drop (length xs - at) (drop at xs) ≡ []
+part-end at xs = drop-of-length-le (drop at xs) {i = length xs - at} (simp length-drop (omega arith))
+
+-- the part came back with `new` in front; the whole was p and then old from `at` on
+pub part-back : (at n : ℕ) (p old xs ys new : List ℕ) → xs ≡ p ++ drop at old → length p ≡ at
+    → ys ≡ new ++ drop n (take (length xs - at) (drop at xs))
+    → take at xs ++ (ys ++ drop (length xs - at) (drop at xs)) ≡ (p ++ new) ++ drop (at + n) old
+part-back at n p old xs ys new e l y =
+    let front : take at xs ≡ p = ap (take at) e ∙ take-at p (drop at old) at l in
+    let rest : drop at xs ≡ drop at old = ap (drop at) e ∙ drop-at p (drop at old) at l in
+    rw (part-end, front, append-nil) (rw y (rw (part-rest, rest, drop-drop) (sym (append-assoc p new _))))
+
+-- ---- blocks one behind the other
+
+module _ (f : ℕ → List ℕ) where
+  pub length-joined : (n : ℕ) → length (joined n f) ≡ sumTo n (λ r. length (f r))
+  unfolding joined sumTo
+  length-joined zero = refl
+  length-joined (suc n) = length-append (joined n f) (f n) ∙ omega (arith, length-joined n)
+
+  -- r blocks stand in front of the output, up to `at`, and old behind them
+  pub record Joined (old : List ℕ) (r at : ℕ) (out : List ℕ) : Type 0 where
+    pub is : out ≡ joined r f ++ drop at old
+    pub size : length (joined r f) ≡ at
+    pub same : length out ≡ length old
+
+  pub joined-none : (old : List ℕ) → Joined old 0 0 old
+  unfolding joined
+  joined-none old = record { is = refl; size = refl; same = refl }
+
+  -- block r was written into the part that starts at `at`
+  pub joined-more : (old out part : List ℕ) (r at n : ℕ) → Joined old r at out → length (f r) ≡ n
+      → part ≡ f r ++ drop n (take (length out - at) (drop at out))
+      → length (take at out ++ (part ++ drop (length out - at) (drop at out))) ≡ length out
+      → Joined old (r + 1) (at + n) (take at out ++ (part ++ drop (length out - at) (drop at out)))
+  unfolding joined
+  joined-more old out part r at n j l y same =
+      record {
+        is = rw (add-one r) (part-back at n (joined r f) old out part (f r) (j .is) (j .size) y);
+        size = rw (add-one r) (length-append (joined r f) (f r) ∙ ap₂ (λ (a b : ℕ). a + b) (j .size) l);
+        same = same ∙ j .same;
+      }
+
+-- ---- zeros in what is left
+
+pub padded-is : (g at : ℕ) (p old out part : List ℕ) → out ≡ p ++ drop at old → length p ≡ at → at ≤ g
+    → part ≡ replicate (g - at) 0 ++ drop (g - at) (take (length out - at) (drop at out))
+    → take at out ++ (part ++ drop (length out - at) (drop at out)) ≡ padded g p ++ drop g old
+unfolding padded
+padded-is g at p old out part e l h y =
+    let all : at + (g - at) ≡ g = omega arith in
+    part-back at (g - at) p old out part (replicate (g - at) 0) e l y
+    ∙ ap₂ (λ (n k : ℕ). (p ++ replicate (g - n) 0) ++ drop k old) (sym l) all
+
+-- one zero more in front
+pub zeros-more : (old out : List ℕ) (k : ℕ) → k < length old → out ≡ replicate k 0 ++ drop k old → set out k 0 ≡ replicate (k + 1) 0 ++ drop (k + 1) old
+zeros-more old out k h e =
+    let more : replicate {A = ℕ} (k + 1) 0 ≡ replicate k 0 ++ (0 ∷ []) = sym (replicate-append-replicate k 1 0) in
+    rw (e, drop-cons old k 0, add-one k)
+    (set-at (replicate k 0) (getD old k 0) (drop (suc k) old) 0 k (length-replicate {A = ℕ} k 0)
+    ∙ sym (append-assoc (replicate k 0) (0 ∷ []) (drop (suc k) old)) ∙ ap (λ (l : List ℕ). l ++ drop (suc k) old) (sym more ∙ ap (λ (n : ℕ). replicate n 0) (add-one k)))

@@ -1,0 +1,12 @@
+pub mod Places
+pub mod Kept
+pub mod Answers
+pub mod Runs
+pub mod Joining
+pub mod Shares
+pub mod Known
+pub mod Sent
+pub mod Taken
+pub mod Transported
+pub mod Agreement
+pub mod Worked

@@ -1,0 +1,28 @@
+-- `coding::matching::put_kept` meets its contract. Assumes nothing.
+use mathlib.Core.Path.{_≡_, refl}
+use native.Mathlib.Omega.{arith}
+use borrow.Author.Needs.{needs}
+use Rattle.coding.proofs.matching.put_kept.Statement.{statement}
+use Rattle.coding.proofs.matching.put_kept.Tie as tie
+
+returns : tie.Need-returns
+returns c = record { skipped = λ e. (refl, refl); full = λ e. (refl, refl); put = λ h l. absurd (h (c .if1 .taken)) }
+
+returns-2 : tie.Need-returns-2
+returns-2 c = record { skipped = λ e. (refl, refl); full = λ e. (refl, refl); put = λ h l. absurd (omega arith) }
+
+slice-write-out : tie.Need-slice-write-out
+slice-write-out c = search needs
+
+add-result : tie.Need-add-result
+add-result c = search needs
+
+same-length : tie.Need-same-length
+same-length c = search needs
+
+returns-3 : tie.Need-returns-3
+returns-3 c = record { skipped = λ e. absurd (c .before .if1 .left e); full = λ e. absurd (c .if2 .left e); put = λ h l. (refl, refl) }
+
+pub put-kept-spec : {M : Type 1} → statement M
+put-kept-spec =
+    tie.close (tie.spec returns returns-2 slice-write-out add-result same-length returns-3)

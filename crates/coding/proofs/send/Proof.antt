@@ -1,0 +1,30 @@
+-- `coding::send` meets its contract. Assumes nothing.
+use mathlib.Core.Path.{_≡_, sym, _∙_}
+use denote.Ref.{now}
+use borrow.Author.Needs.{needs}
+use Rattle.coding.proofs.Answers.{send-first, send-refused}
+use Rattle.coding.proofs.send.Statement.{statement}
+use Rattle.coding.proofs.send.Tie as tie
+
+taken-number-requires : tie.Need-taken-number-requires
+taken-number-requires c κs = search needs
+
+returns : tie.Need-returns
+returns c =
+    let a = c .before .before .before .before .before .args in
+    let taken = c .before .taken-number in
+    let first = send-first (now (a .profile)) (now (a .block)) (a .nl) (a .qm) (a .g .0) (now (a .out)) (λ z. c .if1 .taken (taken .ensures ∙ z)) in
+    send-refused (now (a .profile)) (now (a .block)) (a .nl) (a .qm) (a .g .0) (now (a .out)) (taken .result) (taken .ensures ∙ first) (c .if1 .taken)
+
+send-taken-requires : tie.Need-send-taken-requires
+send-taken-requires c κs = sym (c .before .before .taken-number .ensures) ∙ c .before .if1 .left
+
+same-length : tie.Need-same-length
+same-length c = search needs
+
+returns-2 : tie.Need-returns-2
+returns-2 c = c .before .before .send-taken .ensures
+
+pub send-spec : {M : Type 1} → statement M
+send-spec =
+    tie.close (tie.spec taken-number-requires returns send-taken-requires same-length returns-2)

@@ -1,0 +1,61 @@
+-- What the public calls of sending promise, for all octets, lengths and numbers.
+use mathlib.Core.Path.{_≡_}
+use mathlib.Core.Bool.{Bool, not, _&&_, _||_}
+use mathlib.Core.List.{List, [], _∷_, _++_}
+use Prim.Native.Nat.{ℕ}
+use lib.Dec.{eqb, ltb}
+use lib.ListN.{length, drop}
+use Rattle.bits.specs.Bits.{someOver}
+use Rattle.bits.specs.Numbers.{answered, whenDone}
+use Rattle.bits.specs.Ranges.{anyTo}
+use Rattle.bits.specs.declared.number.Written.{Written}
+use Rattle.profile.specs.Record.{within, wellFormed}
+use Rattle.profile.specs.Staircase.{staircases}
+use Rattle.profile.specs.Plan.{blockBits, blocks}
+use Rattle.coding.specs.Transport.{transport}
+use Rattle.coding.specs.Blocks.{blockHasParity}
+use Rattle.coding.specs.Allocation.{misallocated, symbolPlaces}
+use Rattle.coding.specs.Matching.{kept, matched}
+use Rattle.coding.specs.Joining.{sent}
+
+-- ---- rate-matching one coded block
+
+-- 8: "an E over 65,536, or an E above 0 where every coded place is marked 2"
+unfoldable pub unmatchable : List ℕ → ℕ → Bool
+unmatchable coded e = ltb 65536 e || (ltb 0 e && eqb (length (kept coded)) 0)
+
+unfoldable pub matchNumber : List ℕ → ℕ → ℕ → ℕ
+matchNumber coded e room = answered ((8, unmatchable coded e) ∷ (11, ltb room e) ∷ (12, someOver 2 coded) ∷ [])
+
+pub record RateMatched (coded : List ℕ) (e : ℕ) (out : List ℕ) (r : Written) (out' : List ℕ) : Type 0 where
+  pub number : r .number ≡ matchNumber coded e (length out)
+  pub count : r .count ≡ whenDone (matchNumber coded e (length out)) e 0
+  pub output : out' ≡ whenDone (matchNumber coded e (length out)) (matched coded e ++ drop e out) out
+
+-- ---- sending; R is the profile's record
+
+-- 10: "G' below C"
+unfoldable pub tooFewPlaces : List ℕ → ℕ → ℕ → ℕ → ℕ → Bool
+tooFewPlaces R octets nl qm g = ltb (symbolPlaces nl qm g .0) (blocks R (blockBits octets))
+
+-- 15: "some block has no parity bits with which it checks (step 4)"
+unfoldable pub someWithoutParity : List ℕ → List ℕ → Bool
+someWithoutParity R block = anyTo (blocks R (length (transport block))) (λ r. not (blockHasParity R (transport block) r))
+
+unfoldable pub sendNumber : List ℕ → List ℕ → ℕ → ℕ → ℕ → ℕ → ℕ
+sendNumber R block nl qm g room =
+    answered
+    ((5, not (wellFormed R))
+    ∷ (6, not (staircases R))
+    ∷ (7, not (within 1 2048 (length block)))
+    ∷ (8, misallocated nl qm g)
+    ∷ (9, ltb 64 (blocks R (blockBits (length block))))
+    ∷ (10, tooFewPlaces R (length block) nl qm g)
+    ∷ (11, ltb room g)
+    ∷ (15, someWithoutParity R block)
+    ∷ [])
+
+pub record Sent (R block : List ℕ) (nl qm g : ℕ) (out : List ℕ) (r : Written) (out' : List ℕ) : Type 0 where
+  pub number : r .number ≡ sendNumber R block nl qm g (length out)
+  pub count : r .count ≡ whenDone (sendNumber R block nl qm g (length out)) g 0
+  pub output : out' ≡ whenDone (sendNumber R block nl qm g (length out)) (sent R block nl qm g ++ drop g out) out

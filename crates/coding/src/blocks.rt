@@ -1,0 +1,81 @@
+// Steps 3 to 6 of document 01 for one code block: its places, its parity bits, and its share of the radio bits.
+use crate::matching;
+use profile::Plan;
+ghost use mathlib.Core.Path.{_≡_};
+ghost use mathlib.Core.Bool.{true};
+ghost use mathlib.Core.List.{_++_};
+ghost use Prim.Native.Nat.{_+_, _*_, _≤_};
+ghost use lib.ListN.{length, drop};
+ghost use Rattle.parity.specs.Coded.{hasParity, coded};
+ghost use Rattle.parity.specs.steps.Grouped.{Solution};
+ghost use Rattle.profile.specs.Record.{kb, m, table};
+ghost use Rattle.coding.specs.Matching.{matched};
+ghost use Rattle.coding.specs.steps.Sending.{Ready, Marked, cutPlaces};
+
+// Marks the places from `from` to `to` as filler.
+fn mark(word: &mut [u8], from: usize, to: usize)
+    requires { ⌜ (from ≤ to) × (to ≤ length (now word)) ⌝ }
+    ensures { λ _. ⌜ Marked from to (now (word .entry)) (now (word .exit)) ⌝ }
+{
+    let mut p = from;
+    while p < to {
+        word[p] = 2;
+        p += 1;
+    }
+}
+
+// Lays a block's own bits and its filler into the word, and its parity bits behind them.
+fn code(profile: &[u8], plan: Plan, bits: &[u8], start: usize, own: usize, word: &mut [u8])
+    requires { ⌜ Ready (now profile) (now bits) plan × (own ≤ plan .places) × (start + own ≤ length (now bits)) × (length (now word) ≡ (kb (now profile) + m (now profile)) * plan .z) ⌝ }
+    ensures { λ _. ⌜ Solution (table (now (profile .entry)) (plan .size)) (kb (now (profile .entry))) (m (now (profile .entry))) (plan .z) (cutPlaces (now (bits .entry)) start own (plan .places)) (now (word .exit)) ⌝ }
+{
+    let places = plan.places;
+    let size = plan.size;
+    let z = plan.z;
+    matching::lay(bits, start, word, 0, own);
+    mark(word, own, places);
+    let kb = profile::inner::kb(profile);
+    let m = profile::inner::m(profile);
+    let table = profile::inner::table(profile, size);
+    parity::inner::code(table, kb, m, z, word);
+}
+
+// Whether there are parity bits with which the block checks. `word` is room for one coded block.
+pub fn has_parity(
+    profile: &[u8],
+    plan: Plan,
+    bits: &[u8],
+    start: usize,
+    own: usize,
+    word: &mut [u8],
+) -> bool
+    requires { ⌜ Ready (now profile) (now bits) plan × (own ≤ plan .places) × (start + own ≤ length (now bits)) × (length (now word) ≡ (kb (now profile) + m (now profile)) * plan .z) ⌝ }
+    ensures { λ r. ⌜ r ≡ hasParity (table (now (profile .entry)) (plan .size)) (kb (now (profile .entry))) (m (now (profile .entry))) (plan .z) (cutPlaces (now (bits .entry)) start own (plan .places)) ⌝ }
+{
+    code(profile, plan, bits, start, own, word);
+    let size = plan.size;
+    let z = plan.z;
+    let kb = profile::inner::kb(profile);
+    let m = profile::inner::m(profile);
+    let table = profile::inner::table(profile, size);
+    parity::inner::checks(table, kb, m, z, word)
+}
+
+// Writes the e bits of a block that has parity bits.
+pub fn send_block(
+    profile: &[u8],
+    plan: Plan,
+    bits: &[u8],
+    start: usize,
+    own: usize,
+    e: usize,
+    word: &mut [u8],
+    out: &mut [u8],
+)
+    requires { ⌜ Ready (now profile) (now bits) plan × (own ≤ plan .places) × (start + own ≤ length (now bits)) × (length (now word) ≡ (kb (now profile) + m (now profile)) * plan .z) × (e ≤ length (now out)) × (hasParity (table (now profile) (plan .size)) (kb (now profile)) (m (now profile)) (plan .z) (cutPlaces (now bits) start own (plan .places)) ≡ true) ⌝ }
+    ensures { λ _. ⌜ now (out .exit) ≡ matched (coded (table (now (profile .entry)) (plan .size)) (kb (now (profile .entry))) (m (now (profile .entry))) (plan .z) (cutPlaces (now (bits .entry)) start own (plan .places))) e ++ drop e (now (out .entry)) ⌝ }
+{
+    code(profile, plan, bits, start, own, word);
+    let places = plan.places;
+    matching::match_filled(word, own, places, e, out);
+}

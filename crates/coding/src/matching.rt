@@ -1,0 +1,138 @@
+// Step 6 of document 01: rate matching, of a coded block with marks anywhere, and of one whose filler lies in a known stretch.
+use bits::number::DONE;
+use bits::number::NO_BIT;
+use bits::number::PARAMETER;
+use bits::number::SHORT_OUTPUT;
+ghost use mathlib.Core.Path.{_≡_};
+ghost use mathlib.Core.Bool.{false};
+ghost use mathlib.Core.List.{_++_};
+ghost use Prim.Native.Nat.{_+_, _-_, _≤_, _<_};
+ghost use lib.Dec.{eqb};
+ghost use lib.ListN.{length, drop, take};
+ghost use Rattle.coding.specs.Matching.{kept, matched};
+ghost use Rattle.coding.specs.Promises.{unmatchable, matchNumber};
+ghost use Rattle.coding.specs.steps.Places.{Laid, Repeated, PutKept, Keeping, Filled};
+
+// Lays n octets of s, from `from` on, over out from `at` on.
+pub fn lay(s: &[u8], from: usize, out: &mut [u8], at: usize, n: usize)
+    requires { ⌜ (from + n ≤ length (now s)) × (at + n ≤ length (now out)) ⌝ }
+    ensures { λ _. ⌜ Laid (now (s .entry)) from n (now (out .entry)) at (now (out .exit)) ⌝ }
+{
+    let mut k = 0;
+    while k < n {
+        out[at + k] = s[from + k];
+        k += 1;
+    }
+}
+
+// Repeats the first n octets up to e.
+fn repeat(out: &mut [u8], n: usize, e: usize)
+    requires { ⌜ (0 < n) × (n ≤ e) × (e ≤ length (now out)) ⌝ }
+    ensures { λ _. ⌜ Repeated n e (now (out .entry)) (now (out .exit)) ⌝ }
+{
+    let mut k = n;
+    while k < e {
+        out[k] = out[k - n];
+        k += 1;
+    }
+}
+
+// Writes a place where it is kept and asked for, and answers how many are written then.
+fn put_kept(x: u8, out: &mut [u8], k: usize, e: usize) -> usize
+    requires { ⌜ (k ≤ e) × (e ≤ length (now out)) ⌝ }
+    ensures { λ r. ⌜ PutKept x k e (now (out .entry)) r (now (out .exit)) ⌝ }
+{
+    if x == 2 {
+        return k;
+    }
+    if k == e {
+        return k;
+    }
+    out[k] = x;
+    k + 1
+}
+
+// Writes the kept places in order, at most e of them, and answers how many.
+fn put_all_kept(coded: &[u8], e: usize, out: &mut [u8]) -> usize
+    requires { ⌜ e ≤ length (now out) ⌝ }
+    ensures { λ r. ⌜ Keeping (now (coded .entry)) (now (out .entry)) e (length (now (coded .entry))) r (now (out .exit)) ⌝ }
+{
+    let mut k = 0;
+    let mut i = 0;
+    while i < coded.len() {
+        k = put_kept(coded[i], out, k, e);
+        i += 1;
+    }
+    k
+}
+
+// The e bits of a coded block with marks anywhere: the kept places once, and then their repetition.
+pub fn fill(coded: &[u8], e: usize, out: &mut [u8])
+    requires { ⌜ (e ≤ length (now out)) × (unmatchable (now coded) e ≡ false) ⌝ }
+    ensures { λ _. ⌜ now (out .exit) ≡ matched (now (coded .entry)) e ++ drop e (now (out .entry)) ⌝ }
+{
+    let n = put_all_kept(coded, e, out);
+    if n < e {
+        repeat(out, n, e);
+    }
+}
+
+// Whether every place is marked 2.
+fn none_kept(coded: &[u8]) -> bool
+    ensures { λ r. ⌜ r ≡ eqb (length (kept (now (coded .entry)))) 0 ⌝ }
+{
+    let mut i = 0;
+    while i < coded.len() {
+        if coded[i] != 2 {
+            return false;
+        }
+        i += 1;
+    }
+    true
+}
+
+fn is_unmatchable(coded: &[u8], e: usize) -> bool
+    ensures { λ r. ⌜ r ≡ unmatchable (now (coded .entry)) e ⌝ }
+{
+    if 65536 < e {
+        return true;
+    }
+    if e == 0 {
+        return false;
+    }
+    none_kept(coded)
+}
+
+pub fn match_number(coded: &[u8], e: usize, room: usize) -> u32
+    ensures { λ r. ⌜ r ≡ matchNumber (now (coded .entry)) e room ⌝ }
+{
+    if is_unmatchable(coded, e) {
+        return PARAMETER;
+    }
+    if room < e {
+        return SHORT_OUTPUT;
+    }
+    if bits::inner::some_over(2, coded) {
+        return NO_BIT;
+    }
+    DONE
+}
+
+// The e bits of a coded block whose filler lies from `own` to `places`: its two runs, and then their repetition.
+pub fn match_filled(coded: &[u8], own: usize, places: usize, e: usize, out: &mut [u8])
+    requires { ⌜ Filled (now coded) own places × (places < length (now coded)) × (e ≤ length (now out)) ⌝ }
+    ensures { λ _. ⌜ now (out .exit) ≡ matched (now (coded .entry)) e ++ drop e (now (out .entry)) ⌝ }
+{
+    if e <= own {
+        lay(coded, 0, out, 0, e);
+        return;
+    }
+    lay(coded, 0, out, 0, own);
+    let n = own + (coded.len() - places);
+    if e <= n {
+        lay(coded, places, out, own, e - own);
+        return;
+    }
+    lay(coded, places, out, own, n - own);
+    repeat(out, n, e);
+}

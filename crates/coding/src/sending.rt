@@ -1,0 +1,129 @@
+// Sending transport bits: every block tested for parity bits, then each block's bits straight into its own stretch of the output.
+use crate::allocation;
+use crate::blocks;
+use bits::count::CodedBits;
+use bits::number::DONE;
+use bits::number::NO_PARITY;
+use bits::number::Written;
+use profile::Plan;
+ghost use mathlib.Core.Path.{_≡_};
+ghost use mathlib.Core.Bool.{true};
+ghost use mathlib.Core.List.{_++_};
+ghost use Prim.Native.Nat.{_+_, _*_, _≤_};
+ghost use lib.ListN.{length, drop, replicate};
+ghost use Rattle.profile.specs.Record.{kb, m};
+ghost use Rattle.profile.specs.Plan.{blocks};
+ghost use Rattle.coding.specs.Joining.{blockSent, joined};
+ghost use Rattle.coding.specs.steps.Sending.{Ready, Allocated, allHaveParity, bitsSent, BitsSent};
+
+// Whether every block has parity bits with which it checks.
+fn all_have_parity(profile: &[u8], plan: Plan, bits: &[u8], word: &mut [u8]) -> bool
+    requires { ⌜ Ready (now profile) (now bits) plan × (length (now word) ≡ (kb (now profile) + m (now profile)) * plan .z) ⌝ }
+    ensures { λ r. ⌜ r ≡ allHaveParity (now (profile .entry)) (now (bits .entry)) ⌝ }
+{
+    let b = plan.bits;
+    let c = plan.blocks;
+    let mut start = 0;
+    let mut r = 0;
+    while r < c {
+        let own = profile::inner::own_bits(b, c, r);
+        if !blocks::has_parity(profile, plan, bits, start, own, word) {
+            return false;
+        }
+        start += own;
+        r += 1;
+    }
+    true
+}
+
+// Writes the blocks one behind the other, and answers where they end.
+fn send_blocks(
+    profile: &[u8],
+    plan: Plan,
+    bits: &[u8],
+    nl: usize,
+    qm: usize,
+    g: CodedBits,
+    word: &mut [u8],
+    out: &mut [u8],
+) -> usize
+    requires { ⌜ Ready (now profile) (now bits) plan × (length (now word) ≡ (kb (now profile) + m (now profile)) * plan .z) × Allocated nl qm (g .0) (plan .blocks) × (g .0 ≤ length (now out)) × (allHaveParity (now profile) (now bits) ≡ true) ⌝ }
+    ensures { λ at. ⌜ (at ≤ g .0) × (length (joined (blocks (now (profile .entry)) (length (now (bits .entry)))) (blockSent (now (profile .entry)) (now (bits .entry)) nl qm (g .0))) ≡ at) × (now (out .exit) ≡ joined (blocks (now (profile .entry)) (length (now (bits .entry)))) (blockSent (now (profile .entry)) (now (bits .entry)) nl qm (g .0)) ++ drop at (now (out .entry))) ⌝ }
+{
+    let b = plan.bits;
+    let c = plan.blocks;
+    let mut start = 0;
+    let mut at = 0;
+    let mut r = 0;
+    while r < c {
+        let own = profile::inner::own_bits(b, c, r);
+        let e = allocation::share_of(nl, qm, g, c, r).0;
+        blocks::send_block(profile, plan, bits, start, own, e, word, &mut out[at..]);
+        start += own;
+        at += e;
+        r += 1;
+    }
+    at
+}
+
+// Writes n zeros.
+fn clear(out: &mut [u8], n: usize)
+    requires { ⌜ n ≤ length (now out) ⌝ }
+    ensures { λ _. ⌜ now (out .exit) ≡ replicate n 0 ++ drop n (now (out .entry)) ⌝ }
+{
+    let mut k = 0;
+    while k < n {
+        out[k] = 0;
+        k += 1;
+    }
+}
+
+// Sends transport bits in `word`, room for one coded block. 15 is decided before anything is written.
+fn send_in(
+    profile: &[u8],
+    plan: Plan,
+    bits: &[u8],
+    nl: usize,
+    qm: usize,
+    g: CodedBits,
+    word: &mut [u8],
+    out: &mut [u8],
+) -> Written
+    requires { ⌜ Ready (now profile) (now bits) plan × (length (now word) ≡ (kb (now profile) + m (now profile)) * plan .z) × Allocated nl qm (g .0) (plan .blocks) × (g .0 ≤ length (now out)) ⌝ }
+    ensures { λ r. ⌜ BitsSent (now (profile .entry)) (now (bits .entry)) nl qm (g .0) (now (out .entry)) r (now (out .exit)) ⌝ }
+{
+    if !all_have_parity(profile, plan, bits, word) {
+        return Written {
+            number: NO_PARITY,
+            count: 0,
+        };
+    }
+    let all = g.0;
+    let at = send_blocks(profile, plan, bits, nl, qm, g, word, out);
+    clear(&mut out[at..], all - at);
+    Written {
+        number: DONE,
+        count: all,
+    }
+}
+
+// Sends transport bits, with room for one coded block of its own.
+pub fn send_bits(
+    profile: &[u8],
+    plan: Plan,
+    bits: &[u8],
+    nl: usize,
+    qm: usize,
+    g: CodedBits,
+    out: &mut [u8],
+) -> Written
+    requires { ⌜ Ready (now profile) (now bits) plan × Allocated nl qm (g .0) (plan .blocks) × (g .0 ≤ length (now out)) ⌝ }
+    ensures { λ r. ⌜ BitsSent (now (profile .entry)) (now (bits .entry)) nl qm (g .0) (now (out .entry)) r (now (out .exit)) ⌝ }
+{
+    let z = plan.z;
+    let kb = profile::inner::kb(profile);
+    let m = profile::inner::m(profile);
+    let n = (kb + m) * z;
+    let mut room = [0u8; 2592];
+    send_in(profile, plan, bits, nl, qm, g, &mut room[..n], out)
+}

@@ -1,0 +1,237 @@
+-- What the public calls answer, by their tests. Assumes nothing.
+use mathlib.Core.Path.{_≡_, refl, sym, ap, ap₂, _∙_}
+use mathlib.Core.Bool.{Bool, true, false, cond, not, _||_}
+use mathlib.Core.List.{List, [], _∷_, _++_}
+use Prim.Native.Nat.{ℕ, _+_, _*_, _≤_, _<_}
+use native.Mathlib.Omega.{arith}
+use lib.Dec.{eqb, ltb, lit<}
+use lib.ListN.{length, drop}
+use borrow.Author.Tests.{eqb-true, eqb-false, eq-eqb, ne-eqb, lt-ltb, le-ltb, ltb-false, not-false}
+use Rattle.bits.specs.Bits.{someOver}
+use Rattle.bits.specs.Numbers.{answered}
+use Rattle.bits.specs.Ranges.{anyTo, firstTo}
+use Rattle.bits.proofs.Answers.{passed, when-done, when-refused}
+use Rattle.bits.proofs.Ranges.{first-some, first-none}
+use Rattle.profile.specs.Record.{kb, m, t, z, wellFormed}
+use Rattle.profile.specs.Staircase.{staircases}
+use Rattle.profile.specs.Promises.{judged}
+use Rattle.parity.specs.Matrix.{checks}
+use Rattle.parity.specs.Coded.{hasParity, coded}
+use Rattle.parity.specs.Promises.{hasSize, tableFor, unfit, codeNumber, BlockCoded, checkNumber, WordChecked}
+use Rattle.parity.specs.steps.Gate.{blockNumber}
+
+-- ---- the sizes of a record
+
+module _ (R : List ℕ) (z' : ℕ) where
+  abbrev at : ℕ
+  at = firstTo (t R) (λ i. eqb (z R i) z')
+
+  -- the search for z' ends at t where the record has no such size, and before it where it has
+  pub size-none : at ≡ t R → hasSize R z' ≡ false
+  unfolding hasSize
+  size-none e = by-value (anyTo (t R) (λ i. eqb (z R i) z')) refl
+    where
+      by-value : (b : Bool) → anyTo (t R) (λ i. eqb (z R i) z') ≡ b → b ≡ false
+      by-value false q = refl
+      by-value true q = absurd (let f = first-some (t R) (λ i. eqb (z R i) z') q in omega (arith, f .below))
+
+  pub size-some : (at ≡ t R → ⊥) → hasSize R z' ≡ true
+  unfolding hasSize
+  size-some n = by-value (anyTo (t R) (λ i. eqb (z R i) z')) refl
+    where
+      by-value : (b : Bool) → anyTo (t R) (λ i. eqb (z R i) z') ≡ b → b ≡ true
+      by-value true q = refl
+      by-value false q = absurd (n (first-none (t R) (λ i. eqb (z R i) z') q))
+
+  pub unfit-size : (n : ℕ) (w : List ℕ) → hasSize R z' ≡ false → unfit R z' n w ≡ true
+  unfolding unfit
+  unfit-size n w e = rw e
+
+  pub unfit-length : (n : ℕ) (w : List ℕ) → hasSize R z' ≡ true → not (eqb (length w) (n * z')) ≡ unfit R z' n w
+  unfolding unfit
+  unfit-length n w e = rw e
+
+  pub fits : (n : ℕ) (w : List ℕ) → unfit R z' n w ≡ false → (hasSize R z' ≡ true) × (length w ≡ n * z')
+  unfolding unfit
+  fits n w e = by-value (hasSize R z') refl e
+    where
+      by-value : (b : Bool) → hasSize R z' ≡ b → not b || not (eqb (length w) (n * z')) ≡ false → (hasSize R z' ≡ true) × (length w ≡ n * z')
+      by-value true q e = (q, eqb-true (length w) (n * z') (not-false _ e))
+      by-value false q e = absurd (let y : _≡_ {A = ℕ} 0 1 = cc in omega arith)
+
+-- ---- 5 and 6 as the profile is judged, then the others
+
+judged-then : (R : List ℕ) (rest : List (ℕ × Bool))
+    → answered ((5, not (wellFormed R)) ∷ (6, not (staircases R)) ∷ rest) ≡ cond (eqb (judged R) 0) (answered rest) (judged R)
+unfolding judged answered
+judged-then R rest = by-tests (not (wellFormed R)) (not (staircases R))
+  where
+    by-tests : (a b : Bool)
+        → answered ((5, a) ∷ (6, b) ∷ rest) ≡ cond (eqb (answered ((5, a) ∷ (6, b) ∷ [])) 0) (answered rest) (answered ((5, a) ∷ (6, b) ∷ []))
+    by-tests true b = refl
+    by-tests false true = refl
+    by-tests false false = refl
+
+module _ (R : List ℕ) (rest : List (ℕ × Bool)) where
+  refused-first : (judged R ≡ 0 → ⊥) → answered ((5, not (wellFormed R)) ∷ (6, not (staircases R)) ∷ rest) ≡ judged R
+  refused-first n = judged-then R rest ∙ rw (ne-eqb (judged R) 0 n)
+
+  judged-first : judged R ≡ 0 → answered ((5, not (wellFormed R)) ∷ (6, not (staircases R)) ∷ rest) ≡ answered rest
+  judged-first e = judged-then R rest ∙ rw (eq-eqb (judged R) 0 e)
+
+  done-first : answered ((5, not (wellFormed R)) ∷ (6, not (staircases R)) ∷ rest) ≡ 0 → (judged R ≡ 0) × (answered rest ≡ 0)
+  done-first e = by-value (eqb (judged R) 0) refl (sym (judged-then R rest) ∙ e)
+    where
+      by-value : (b : Bool) → eqb (judged R) 0 ≡ b → cond b (answered rest) (judged R) ≡ 0 → (judged R ≡ 0) × (answered rest ≡ 0)
+      by-value true q f = (eqb-true (judged R) 0 q, f)
+      by-value false q f = absurd (eqb-false (judged R) 0 q f)
+
+-- ---- the numbers before coding
+
+module _ (R : List ℕ) (z' : ℕ) (places : List ℕ) (room : ℕ) where
+  abbrev others : List (ℕ × Bool)
+  others = (8, unfit R z' (kb R) places) ∷ (11, ltb room ((kb R + m R) * z')) ∷ (12, someOver 2 places) ∷ []
+
+  -- what the code answers, by what it found: j the profile's number, k and n its kb and m, u and o the tests of 8 and 12
+  module _ (j : ℕ) (found : j ≡ judged R) where
+    pub block-judged : (j ≡ 0 → ⊥) → j ≡ blockNumber R z' places room
+    unfolding blockNumber
+    block-judged h = found ∙ sym (refused-first R others (λ q. h (found ∙ q)))
+
+    module _ (done : j ≡ 0) (k n : ℕ) (kb-is : k ≡ kb R) (m-is : n ≡ m R) (u : Bool) (fit : u ≡ unfit R z' k places) where
+      fit-is : {b : Bool} → u ≡ b → unfit R z' (kb R) places ≡ b
+      fit-is e = ap (λ (x : ℕ). unfit R z' x places) (sym kb-is) ∙ sym fit ∙ e
+
+      wide-is : (k + n) * z' ≡ (kb R + m R) * z'
+      wide-is = ap₂ (λ (x y : ℕ). (x + y) * z') kb-is m-is
+
+      pub block-8 : u ≡ true → 8 ≡ blockNumber R z' places room
+      unfolding blockNumber answered
+      block-8 e = sym (judged-first R others (sym found ∙ done) ∙ rw (fit-is e))
+
+      pub block-11 : u ≡ false → room < (k + n) * z' → 11 ≡ blockNumber R z' places room
+      unfolding blockNumber answered
+      block-11 e l =
+          sym (judged-first R others (sym found ∙ done) ∙ rw (fit-is e, lt-ltb room ((kb R + m R) * z') (omega (arith, wide-is))))
+
+      module _ (e : u ≡ false) (l : (k + n) * z' ≤ room) (o : Bool) (over : o ≡ someOver 2 places) where
+        pub block-12 : o ≡ true → 12 ≡ blockNumber R z' places room
+        unfolding blockNumber answered
+        block-12 q =
+            sym (judged-first R others (sym found ∙ done)
+            ∙ rw (fit-is e, le-ltb room ((kb R + m R) * z') (omega (arith, wide-is)), sym over ∙ q))
+
+        pub block-0 : o ≡ false → 0 ≡ blockNumber R z' places room
+        unfolding blockNumber answered
+        block-0 q =
+            sym (judged-first R others (sym found ∙ done)
+            ∙ rw (fit-is e, le-ltb room ((kb R + m R) * z') (omega (arith, wide-is)), sym over ∙ q))
+
+  pub record Taken : Type 0 where
+    pub judged : judged R ≡ 0
+    pub size : hasSize R z' ≡ true
+    pub long : length places ≡ kb R * z'
+    pub enough : (kb R + m R) * z' ≤ room
+
+  pub block-taken : blockNumber R z' places room ≡ 0 → Taken
+  unfolding blockNumber
+  block-taken e =
+      let first = done-first R others e in
+      let eight = passed 8 _ (unfit R z' (kb R) places) (lit< tt) (first .1) in
+      let eleven = passed 11 _ (ltb room ((kb R + m R) * z')) (lit< tt) (eight .1) in
+      let fit = fits R z' (kb R) places (eight .0) in
+      record { judged = first .0; size = fit .0; long = fit .1; enough = ltb-false room ((kb R + m R) * z') (eleven .0) }
+
+  -- and 15 behind them
+  code-number : codeNumber R z' places room
+      ≡ cond (eqb (blockNumber R z' places room) 0) (cond (hasParity (tableFor R z') (kb R) (m R) z' places) 0 15) (blockNumber R z' places room)
+  unfolding codeNumber blockNumber answered
+  code-number =
+      by-tests (not (wellFormed R)) (not (staircases R)) (unfit R z' (kb R) places) (ltb room ((kb R + m R) * z')) (someOver 2 places)
+      (hasParity (tableFor R z') (kb R) (m R) z' places)
+    where
+      by-tests : (a b c d e f : Bool)
+          → answered ((5, a) ∷ (6, b) ∷ (8, c) ∷ (11, d) ∷ (12, e) ∷ (15, not f) ∷ [])
+          ≡ cond (eqb (answered ((5, a) ∷ (6, b) ∷ (8, c) ∷ (11, d) ∷ (12, e) ∷ [])) 0) (cond f 0 15)
+          (answered ((5, a) ∷ (6, b) ∷ (8, c) ∷ (11, d) ∷ (12, e) ∷ []))
+      by-tests true b c d e f = refl
+      by-tests false true c d e f = refl
+      by-tests false false true d e f = refl
+      by-tests false false false true e f = refl
+      by-tests false false false false true f = refl
+      by-tests false false false false false true = refl
+      by-tests false false false false false false = refl
+
+module _ (R : List ℕ) (z' : ℕ) (places out : List ℕ) where
+  abbrev block : ℕ
+  block = blockNumber R z' places (length out)
+
+  refused-with : (n : ℕ) → codeNumber R z' places (length out) ≡ n → (n ≡ 0 → ⊥) → BlockCoded R z' places out (record { number = n; count = 0 }) out
+  refused-with n e h =
+      record {
+        number = sym e;
+        count = rw e (sym (when-refused n ((kb R + m R) * z') 0 h));
+        output = rw e (sym (when-refused n _ out h));
+      }
+
+  pub coded-refused : (n : ℕ) → n ≡ block → (n ≡ 0 → ⊥) → BlockCoded R z' places out (record { number = n; count = 0 }) out
+  coded-refused n e h =
+      refused-with n (code-number R z' places (length out) ∙ rw (ne-eqb block 0 (λ q. h (e ∙ q))) (sym e)) h
+
+  module _ (e : block ≡ 0) where
+    pub coded-none : hasParity (tableFor R z') (kb R) (m R) z' places ≡ false → BlockCoded R z' places out (record { number = 15; count = 0 }) out
+    coded-none h = refused-with 15 (code-number R z' places (length out) ∙ rw (eq-eqb block 0 e, h)) (λ q. omega arith)
+
+    pub coded-done : hasParity (tableFor R z') (kb R) (m R) z' places ≡ true → (n : ℕ) → n ≡ (kb R + m R) * z' → (out' : List ℕ)
+        → out' ≡ coded (tableFor R z') (kb R) (m R) z' places ++ drop ((kb R + m R) * z') out
+        → BlockCoded R z' places out (record { number = 0; count = n }) out'
+    coded-done h n p out' q =
+        let c : codeNumber R z' places (length out) ≡ 0 = code-number R z' places (length out) ∙ rw (eq-eqb block 0 e, h) in
+        record {
+          number = sym c;
+          count = rw c (p ∙ sym (when-done 0 ((kb R + m R) * z') 0 refl));
+          output = rw c (q ∙ sym (when-done 0 _ out refl));
+        }
+
+-- ---- checking a word
+
+module _ (R : List ℕ) (z' : ℕ) (word : List ℕ) where
+  abbrev tests : List (ℕ × Bool)
+  tests = (8, unfit R z' (kb R + m R) word) ∷ (12, someOver 1 word) ∷ []
+
+  module _ (j : ℕ) (found : j ≡ judged R) where
+    pub word-judged : (j ≡ 0 → ⊥) → j ≡ checkNumber R z' word
+    unfolding checkNumber
+    word-judged h = found ∙ sym (refused-first R tests (λ q. h (found ∙ q)))
+
+    module _ (done : j ≡ 0) (k n : ℕ) (kb-is : k ≡ kb R) (m-is : n ≡ m R) (u : Bool) (fit : u ≡ unfit R z' (k + n) word) where
+      fit-word : {b : Bool} → u ≡ b → unfit R z' (kb R + m R) word ≡ b
+      fit-word e = ap₂ (λ (x y : ℕ). unfit R z' (x + y) word) (sym kb-is) (sym m-is) ∙ sym fit ∙ e
+
+      pub word-8 : u ≡ true → 8 ≡ checkNumber R z' word
+      unfolding checkNumber answered
+      word-8 e = sym (judged-first R tests (sym found ∙ done) ∙ rw (fit-word e))
+
+      module _ (e : u ≡ false) (o : Bool) (over : o ≡ someOver 1 word) where
+        pub word-12 : o ≡ true → 12 ≡ checkNumber R z' word
+        unfolding checkNumber answered
+        word-12 q = sym (judged-first R tests (sym found ∙ done) ∙ rw (fit-word e, sym over ∙ q))
+
+        pub word-0 : o ≡ false → 0 ≡ checkNumber R z' word
+        unfolding checkNumber answered
+        word-0 q = sym (judged-first R tests (sym found ∙ done) ∙ rw (fit-word e, sym over ∙ q))
+
+  pub word-taken : checkNumber R z' word ≡ 0 → (judged R ≡ 0) × (hasSize R z' ≡ true) × (length word ≡ (kb R + m R) * z')
+  unfolding checkNumber
+  word-taken e =
+      let first = done-first R tests e in
+      let eight = passed 8 _ (unfit R z' (kb R + m R) word) (lit< tt) (first .1) in
+      let fit = fits R z' (kb R + m R) word (eight .0) in
+      (first .0, fit .0, fit .1)
+
+  pub checked-refused : (n : ℕ) → n ≡ checkNumber R z' word → (n ≡ 0 → ⊥) → WordChecked R z' word (record { number = n; checks = false })
+  checked-refused n e h = record { number = e; checks = sym (when-refused (checkNumber R z' word) _ false (λ q. h (e ∙ q))) }
+
+  pub checked-done : (n : ℕ) → n ≡ checkNumber R z' word → n ≡ 0 → (b : Bool) → b ≡ checks (tableFor R z') (m R) (kb R + m R) z' word
+      → WordChecked R z' word (record { number = n; checks = b })
+  checked-done n e h b q = record { number = e; checks = q ∙ sym (when-done (checkNumber R z' word) _ false (sym e ∙ h)) }

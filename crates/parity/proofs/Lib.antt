@@ -1,0 +1,12 @@
+pub mod Spread
+pub mod Rows
+pub mod Solve
+pub mod Unique
+pub mod Coded
+pub mod Worked
+pub mod Runs
+pub mod Columns
+pub mod Groups
+pub mod Ready
+pub mod Answers
+pub mod Agreement

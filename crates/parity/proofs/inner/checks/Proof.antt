@@ -1,0 +1,47 @@
+-- `parity::inner::checks` meets its contract. Assumes nothing.
+use mathlib.Core.Path.{sym}
+use native.Mathlib.Nat.{mul-le-mul}
+use native.Mathlib.Omega.{arith}
+use lib.ListN.{replicate}
+use lib.Seq.{length-take-le}
+use borrow.Author.Needs.{needs}
+use Rattle.parity.proofs.Columns.{sums-room}
+use Rattle.parity.proofs.inner.checks.Statement.{statement}
+use Rattle.parity.proofs.inner.checks.Tie as tie
+
+mul-n : tie.Need-mul-n
+mul-n c =
+    let shape = c .before .before .pre .0 in
+    omega (arith, shape .z-most, mul-le-mul (shape .m-most) (shape .z-most))
+
+add-are-even : tie.Need-add-are-even
+add-are-even c = omega (arith, c .before .before .pre .0 .wide-most)
+
+array-borrow-prefix-room : tie.Need-array-borrow-prefix-room
+array-borrow-prefix-room c =
+    let shape = c .before .before .pre .0 in
+    omega (arith, shape .z-most, mul-le-mul (shape .m-most) (shape .z-most))
+
+slice-aggregate-are-even : tie.Need-slice-aggregate-are-even
+slice-aggregate-are-even c =
+    let shape = c .before .before .before .pre .0 in
+    sym (length-take-le _ (replicate 972 0) (omega (arith, shape .z-most, mul-le-mul (shape .m-most) (shape .z-most))))
+
+are-even-requires : tie.Need-are-even-requires
+are-even-requires c κs =
+    let pre = c .before .before .before .pre in
+    (pre .0, pre .1, sums-room _ _ _ _ _ (pre .0))
+
+returns : tie.Need-returns
+returns c = search needs
+
+pub checks-spec : {M : Type 1} → statement M
+checks-spec =
+    tie.close
+    (tie.spec
+    mul-n
+    add-are-even
+    array-borrow-prefix-room
+    slice-aggregate-are-even
+    are-even-requires
+    returns)

@@ -1,0 +1,45 @@
+-- `parity::inner::code` meets its contract. Assumes nothing.
+use mathlib.Core.Path.{sym}
+use native.Mathlib.Nat.{mul-le-mul}
+use native.Mathlib.Omega.{arith}
+use lib.ListN.{replicate}
+use lib.Seq.{length-take-le}
+use borrow.Author.Needs.{needs}
+use Rattle.parity.proofs.Columns.{sums-room}
+use Rattle.parity.proofs.inner.code.Statement.{statement}
+use Rattle.parity.proofs.inner.code.Tie as tie
+
+mul-used : tie.Need-mul-used
+mul-used c = search needs
+
+array-borrow-prefix-room : tie.Need-array-borrow-prefix-room
+array-borrow-prefix-room c =
+    let shape = c .before .before .before .pre .0 in
+    omega (arith, shape .z-most, mul-le-mul (shape .m-most) (shape .z-most))
+
+slice-aggregate-solve : tie.Need-slice-aggregate-solve
+slice-aggregate-solve c =
+    let shape = c .before .before .before .before .pre .0 in
+    sym (length-take-le _ (replicate 972 0) (omega (arith, shape .z-most, mul-le-mul (shape .m-most) (shape .z-most))))
+
+solve-requires : tie.Need-solve-requires
+solve-requires c κs =
+    let pre = c .before .before .before .before .pre in
+    (pre .0, pre .1, sums-room _ _ _ _ _ (pre .0))
+
+same-length : tie.Need-same-length
+same-length c = search needs
+
+returns : tie.Need-returns
+returns c = search needs
+
+pub code-spec : {M : Type 1} → statement M
+code-spec =
+    tie.close
+    (tie.spec
+    mul-used
+    array-borrow-prefix-room
+    slice-aggregate-solve
+    solve-requires
+    same-length
+    returns)

@@ -1,0 +1,107 @@
+-- `parity::sums::add_column` meets its contract. The loop's invariant: column j is in the sums of the rows before i. Assumes nothing.
+use mathlib.Core.Path.{_≡_}
+use Prim.Native.Nat.{_+_, _-_, _*_, _≤_}
+use native.Mathlib.Nat.{mul-le-mul}
+use native.Mathlib.Omega.{arith}
+use borrow.Author.Needs.{needs}
+use Rattle.parity.specs.steps.Runs.{Sums}
+use Rattle.parity.proofs.Columns.{group-in, group-next, sums-row, sums-column}
+use Rattle.parity.proofs.sums.add_column.Statement.{statement}
+use Rattle.parity.proofs.sums.add_column.Tie as tie
+
+abbrev Inv-loop : tie.InvT-loop
+Inv-loop table m wide z j word g sums₀ at₀ e₀ i₀ sums at e i =
+    (i ≤ m) × (at ≡ i * z) × (e ≡ i * wide + j) × Sums table m wide z word j i sums
+
+abbrev μ-loop : tie.MeasureT-loop
+μ-loop table m wide z j word g sums₀ at₀ e₀ i₀ sums at e i = m - i
+
+mul-double : tie.Need-mul-double Inv-loop μ-loop
+mul-double c =
+    let st = c .before .before .before .before in
+    omega (arith, group-in (st .args .j) (st .args .wide) (st .args .z) (st .pre .1), st)
+
+double-requires : tie.Need-double-requires Inv-loop μ-loop
+double-requires c κs =
+    let st = c .before .before .before .before .before in
+    let shape = st .pre .0 in
+    (shape .z-some, omega (arith, group-in (st .args .j) (st .args .wide) (st .args .z) (st .pre .1), st), omega (arith, shape .z-most, st), st .pre .4)
+
+loop-holds : tie.Need-loop-holds Inv-loop μ-loop
+loop-holds c = (search needs, search needs, search needs, c .before .before .before .before .before .before .before .before .pre .5)
+
+shared-slice-read-add-entry : tie.Need-shared-slice-read-add-entry Inv-loop μ-loop
+shared-slice-read-add-entry c =
+    let st = c .before .before .before .before .before .before .before .before .before .before .before in
+    omega (arith, group-in (c .before .before .loop .i) (st .args .m) (st .args .wide) (search needs), st .pre .0 .size, st .pre .1)
+
+add-entry-requires : tie.Need-add-entry-requires Inv-loop μ-loop
+add-entry-requires c κs =
+    let st = c .before .before .before .before .before .before .before .before .before .before .before .before .before in
+    let l = c .before .before .before .before .loop in
+    let d = c .before .before .before .before .before .before .before .double in (
+      st .pre .0 .shifts (l .e),
+      omega (arith, st .pre .0 .z-most, st .pre .3, d .kept .1 .1 .1 .0),
+      omega (arith, group-in (l .i) (st .args .m) (st .args .z) (search needs), l .inv .1, l .inv .3 .size),
+      d .ensures .bits,
+      l .inv .3 .bits,
+    )
+
+add-at : tie.Need-add-at Inv-loop μ-loop
+add-at c =
+    let st = c .before .before .before .before .before .before .before .before .before .before .before .before .before .before .before .before in
+    let l = c .before .before .before .before .before .before .before .loop in
+    omega (arith, group-in (l .i) (st .args .m) (st .args .z) (search needs), l .inv .1, mul-le-mul (st .pre .0 .m-most) (st .pre .0 .z-most))
+
+add-e : tie.Need-add-e Inv-loop μ-loop
+add-e c =
+    let st = c .before .before .before .before .before .before .before .before .before .before .before .before .before .before .before .before in
+    let l = c .before .before .before .before .before .before .before .loop in
+    let shape = st .pre .0 in
+    omega (arith, group-in (l .i) (st .args .m) (st .args .wide) (search needs), l .inv .2, st .pre .1, shape .wide-most, mul-le-mul (shape .m-most) (shape .wide-most))
+
+add-i : tie.Need-add-i Inv-loop μ-loop
+add-i c = search needs
+
+loop-less : tie.Need-loop-less Inv-loop μ-loop
+loop-less c = search needs
+
+loop-again : tie.Need-loop-again Inv-loop μ-loop
+loop-again c =
+    let st = c .before .before .before .before .before .before .before .before .before .before .before .before .before .before .before .before in
+    let u = c .before .before .before .before .before .before .before in
+    let l = u .loop in (
+      search needs,
+      omega (arith, group-next (l .i) (st .args .z), l .inv .1),
+      omega (arith, group-next (l .i) (st .args .wide), l .inv .2),
+      sums-row _ _ _ _ _ (st .pre .0) (c .before .before .before .before .before .before .before .before .before .before .double .ensures) (search needs) (l .inv .1) (l .inv .2) (l .inv .3) (c .before .before .add-entry .ensures),
+    )
+
+same-length : tie.Need-same-length Inv-loop μ-loop
+same-length c = search needs
+
+same-length-2 : tie.Need-same-length-2 Inv-loop μ-loop
+same-length-2 c = omega (arith, c .before .loop .inv .3 .size, c .before .before .before .before .before .before .before .before .before .before .pre .5 .size)
+
+returns : tie.Need-returns Inv-loop μ-loop
+returns c = (c .before .before .before .before .double .ensures .bits, sums-column _ _ _ _ _ (search needs) (c .before .loop .inv .3))
+
+pub add-column-spec : {M : Type 1} → statement M
+add-column-spec =
+    tie.close
+    (tie.spec
+    Inv-loop
+    μ-loop
+    mul-double
+    double-requires
+    loop-holds
+    shared-slice-read-add-entry
+    add-entry-requires
+    add-at
+    add-e
+    add-i
+    loop-less
+    loop-again
+    same-length
+    same-length-2
+    returns)

@@ -1,0 +1,4 @@
+pub mod Matrix
+pub mod Coded
+pub mod Promises
+pub mod steps

@@ -1,0 +1,60 @@
+-- What the public calls promise, for every record R, every z and all octets.
+use mathlib.Core.Path.{_≡_}
+use mathlib.Core.Bool.{Bool, false, not, _||_}
+use mathlib.Core.List.{List, [], _∷_, _++_}
+use Prim.Native.Nat.{ℕ, _+_, _*_}
+use lib.Dec.{eqb, ltb}
+use lib.ListN.{length, drop}
+use Rattle.bits.specs.Bits.{someOver}
+use Rattle.bits.specs.Numbers.{answered, whenDone}
+use Rattle.bits.specs.Ranges.{anyTo, firstTo}
+use Rattle.bits.specs.declared.number.Written.{Written}
+use Rattle.profile.specs.Record.{kb, m, t, z, table, wellFormed}
+use Rattle.profile.specs.Staircase.{staircases}
+use Rattle.parity.specs.Matrix.{checks}
+use Rattle.parity.specs.Coded.{hasParity, coded}
+use Rattle.parity.specs.declared.Verdict.{Verdict}
+
+-- the record has the size z'; its table
+unfoldable pub hasSize : List ℕ → ℕ → Bool
+hasSize R z' = anyTo (t R) (λ i. eqb (z R i) z')
+
+unfoldable pub tableFor : List ℕ → ℕ → List ℕ
+tableFor R z' = table R (firstTo (t R) (λ i. eqb (z R i) z'))
+
+-- 8 "for a z or a word length that the profile does not give": a length other than n groups of z' places
+unfoldable pub unfit : List ℕ → ℕ → ℕ → List ℕ → Bool
+unfit R z' n w = not (hasSize R z') || not (eqb (length w) (n * z'))
+
+-- ---- coding one block of places, where the output is `room` octets long
+
+unfoldable pub codeNumber : List ℕ → ℕ → List ℕ → ℕ → ℕ
+codeNumber R z' places room =
+    answered
+    ((5, not (wellFormed R))
+    ∷ (6, not (staircases R))
+    ∷ (8, unfit R z' (kb R) places)
+    ∷ (11, ltb room ((kb R + m R) * z'))
+    ∷ (12, someOver 2 places)
+    ∷ (15, not (hasParity (tableFor R z') (kb R) (m R) z' places))
+    ∷ [])
+
+pub record BlockCoded (R : List ℕ) (z' : ℕ) (places out : List ℕ) (r : Written) (out' : List ℕ) : Type 0 where
+  pub number : r .number ≡ codeNumber R z' places (length out)
+  pub count : r .count ≡ whenDone (codeNumber R z' places (length out)) ((kb R + m R) * z') 0
+  pub output : out' ≡ whenDone (codeNumber R z' places (length out)) (coded (tableFor R z') (kb R) (m R) z' places ++ drop ((kb R + m R) * z') out) out
+
+-- ---- checking one word of bits
+
+unfoldable pub checkNumber : List ℕ → ℕ → List ℕ → ℕ
+checkNumber R z' word =
+    answered
+    ((5, not (wellFormed R))
+    ∷ (6, not (staircases R))
+    ∷ (8, unfit R z' (kb R + m R) word)
+    ∷ (12, someOver 1 word)
+    ∷ [])
+
+pub record WordChecked (R : List ℕ) (z' : ℕ) (word : List ℕ) (r : Verdict) : Type 0 where
+  pub number : r .number ≡ checkNumber R z' word
+  pub checks : r .checks ≡ whenDone (checkNumber R z' word) (checks (tableFor R z') (m R) (kb R + m R) z' word) false

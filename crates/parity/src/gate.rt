@@ -1,0 +1,62 @@
+// What the public calls refuse: the lowest number that applies, found before anything is done.
+use bits::number::DONE;
+use bits::number::NO_BIT;
+use bits::number::PARAMETER;
+use bits::number::SHORT_OUTPUT;
+ghost use mathlib.Core.Path.{_≡_};
+ghost use Prim.Native.Nat.{_≤_};
+ghost use Rattle.profile.specs.Promises.{judged};
+ghost use Rattle.parity.specs.Promises.{unfit, checkNumber};
+ghost use Rattle.parity.specs.steps.Gate.{blockNumber};
+
+// Whether z is no size of the profile, or w is not n groups of z places. The product is made only of a z that is a size.
+fn is_unfit(profile: &[u8], z: usize, n: usize, w: &[u8]) -> bool
+    requires { ⌜ (judged (now profile) ≡ 0) × (n ≤ 32) ⌝ }
+    ensures { λ r. ⌜ r ≡ unfit (now (profile .entry)) z n (now (w .entry)) ⌝ }
+{
+    let t = profile::inner::t(profile);
+    if profile::inner::size_of(profile, z) == t {
+        return true;
+    }
+    w.len() != n * z
+}
+
+// The number of a block that is to be coded to an output of `room` octets, but for 15, which coding finds.
+pub fn block_number(profile: &[u8], z: usize, places: &[u8], room: usize) -> u32
+    ensures { λ r. ⌜ r ≡ blockNumber (now (profile .entry)) z (now (places .entry)) room ⌝ }
+{
+    let number = profile::judge(profile);
+    if number != DONE {
+        return number;
+    }
+    let kb = profile::inner::kb(profile);
+    let m = profile::inner::m(profile);
+    if is_unfit(profile, z, kb, places) {
+        return PARAMETER;
+    }
+    if room < (kb + m) * z {
+        return SHORT_OUTPUT;
+    }
+    if bits::inner::some_over(2, places) {
+        return NO_BIT;
+    }
+    DONE
+}
+
+// The number of a word that is to be checked.
+pub fn word_number(profile: &[u8], z: usize, word: &[u8]) -> u32
+    ensures { λ r. ⌜ r ≡ checkNumber (now (profile .entry)) z (now (word .entry)) ⌝ }
+{
+    let judged = profile::judge(profile);
+    if judged != DONE {
+        return judged;
+    }
+    let n = profile::inner::kb(profile) + profile::inner::m(profile);
+    if is_unfit(profile, z, n, word) {
+        return PARAMETER;
+    }
+    if bits::inner::some_over(1, word) {
+        return NO_BIT;
+    }
+    DONE
+}

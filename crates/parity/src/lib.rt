@@ -1,0 +1,76 @@
+// The parity check of section 5.1.3.2: coding one block of places, and checking one word of bits.
+mod gate;
+pub mod inner;
+mod run;
+mod stairs;
+mod sums;
+
+use bits::number::DONE;
+use bits::number::NO_PARITY;
+use bits::number::Written;
+ghost use mathlib.Core.Path.{_≡_};
+ghost use Prim.Native.Nat.{_+_, _*_};
+ghost use lib.ListN.{length};
+ghost use Rattle.profile.specs.Record.{kb, m};
+ghost use Rattle.parity.specs.Promises.{BlockCoded, WordChecked};
+ghost use Rattle.parity.specs.steps.Gate.{blockNumber};
+
+// A check's answer: its number, and whether the word checks, no with a refusal.
+pub struct Verdict {
+    pub number: u32,
+    pub checks: bool,
+}
+
+// Codes places that no number before 15 refuses. They are coded in `word`, which is handed out only where it checks.
+fn code_in(profile: &[u8], z: usize, places: &[u8], word: &mut [u8], out: &mut [u8]) -> Written
+    requires { ⌜ (blockNumber (now profile) z (now places) (length (now out)) ≡ 0) × (length (now word) ≡ (kb (now profile) + m (now profile)) * z) ⌝ }
+    ensures { λ r. ⌜ BlockCoded (now (profile .entry)) z (now (places .entry)) (now (out .entry)) r (now (out .exit)) ⌝ }
+{
+    let kb = profile::inner::kb(profile);
+    let m = profile::inner::m(profile);
+    let size = profile::inner::size_of(profile, z);
+    let table = profile::inner::table(profile, size);
+    if !inner::attempt(table, kb, m, z, places, word) {
+        return Written {
+            number: NO_PARITY,
+            count: 0,
+        };
+    }
+    run::copy(out, word);
+    Written {
+        number: DONE,
+        count: word.len(),
+    }
+}
+
+// Codes one block of places, 0, 1 and the filler mark 2: its (kb+m)·z octets go to the front of out (document 01, step 4).
+pub fn code_block(profile: &[u8], z: usize, places: &[u8], out: &mut [u8]) -> Written
+    ensures { λ r. ⌜ BlockCoded (now (profile .entry)) z (now (places .entry)) (now (out .entry)) r (now (out .exit)) ⌝ }
+{
+    let number = gate::block_number(profile, z, places, out.len());
+    if number != DONE {
+        return Written { number, count: 0 };
+    }
+    let n = (profile::inner::kb(profile) + profile::inner::m(profile)) * z;
+    let mut word = [0u8; 2592];
+    code_in(profile, z, places, &mut word[..n], out)
+}
+
+// Checks one word of bits: whether every row of the spread-out matrix sums to an even number over it.
+pub fn check_word(profile: &[u8], z: usize, word: &[u8]) -> Verdict
+    ensures { λ r. ⌜ WordChecked (now (profile .entry)) z (now (word .entry)) r ⌝ }
+{
+    let number = gate::word_number(profile, z, word);
+    if number != DONE {
+        return Verdict {
+            number,
+            checks: false,
+        };
+    }
+    let kb = profile::inner::kb(profile);
+    let m = profile::inner::m(profile);
+    let at = profile::inner::size_of(profile, z);
+    let table = profile::inner::table(profile, at);
+    let checks = inner::checks(table, kb, m, z, word);
+    Verdict { number, checks }
+}

@@ -1,0 +1,88 @@
+// The sums of all rows of a table over the columns of a word, column by column.
+use crate::run;
+ghost use mathlib.Core.Path.{_≡_};
+ghost use Prim.Native.Nat.{_+_, _*_, _≤_, _<_};
+ghost use lib.ListN.{length};
+ghost use Rattle.bits.specs.Bits.{AreBits};
+ghost use Rattle.parity.specs.Matrix.{checks};
+ghost use Rattle.parity.specs.steps.Grouped.{Shape};
+ghost use Rattle.parity.specs.steps.Runs.{Run, entered, Doubled, Sums};
+
+// An entry that holds no shift.
+const EMPTY: u8 = 255;
+
+// A column's group of z bits twice, one after the other: what a shift s turns round is then one straight run from s on.
+fn double(word: &[u8], base: usize, z: usize, g: &mut [u8])
+    requires { ⌜ (0 < z) × (base + z ≤ length (now word)) × (z + z ≤ length (now g)) × AreBits (now g) ⌝ }
+    ensures { λ _. ⌜ Doubled (now (word .entry)) base z (now (g .exit)) ⌝ }
+{
+    run::copy_bits(g, 0, word, base, z);
+    run::copy_bits(g, z, word, base, z);
+}
+
+// What the entry s adds to the z rows of its square, whose sums start at `at`: nothing where it is empty.
+fn add_entry(s: u8, g: &[u8], z: usize, sums: &mut [u8], at: usize)
+    requires { ⌜ ((s ≡ 255 → ⊥) → s < z) × (z + z ≤ length (now g)) × (at + z ≤ length (now sums)) × AreBits (now g) × AreBits (now sums) ⌝ }
+    ensures { λ _. ⌜ Run z (entered (now (sums .entry)) at s (now (g .entry))) (now (sums .entry)) at (now (sums .exit)) ⌝ }
+{
+    if s != EMPTY {
+        run::xor_run(sums, at, g, s as usize, z);
+    }
+}
+
+// Column j into the sums of all rows. g is room for its doubled group.
+fn add_column(
+    table: &[u8],
+    m: usize,
+    wide: usize,
+    z: usize,
+    j: usize,
+    word: &[u8],
+    g: &mut [u8],
+    sums: &mut [u8],
+)
+    requires { ⌜ Shape (now table) m wide z × (j < wide) × (length (now word) ≡ wide * z) × (length (now g) ≡ 162) × AreBits (now g) × Sums (now table) m wide z (now word) j 0 (now sums) ⌝ }
+    ensures { λ _. ⌜ AreBits (now (g .exit)) × Sums (now (table .entry)) m wide z (now (word .entry)) (j + 1) 0 (now (sums .exit)) ⌝ }
+{
+    double(word, j * z, z, g);
+    let mut at = 0;
+    let mut e = j;
+    let mut i = 0;
+    while i < m {
+        add_entry(table[e], g, z, sums, at);
+        at += z;
+        e += wide;
+        i += 1;
+    }
+}
+
+// The columns `from` .. `to` − 1 into the sums, which hold those before.
+pub fn add_columns(
+    table: &[u8],
+    m: usize,
+    wide: usize,
+    z: usize,
+    from: usize,
+    to: usize,
+    word: &[u8],
+    sums: &mut [u8],
+)
+    requires { ⌜ Shape (now table) m wide z × (from ≤ to) × (to ≤ wide) × (length (now word) ≡ wide * z) × Sums (now table) m wide z (now word) from 0 (now sums) ⌝ }
+    ensures { λ _. ⌜ Sums (now (table .entry)) m wide z (now (word .entry)) to 0 (now (sums .exit)) ⌝ }
+{
+    let mut g = [0u8; 162];
+    let mut j = from;
+    while j < to {
+        add_column(table, m, wide, z, j, word, &mut g, sums);
+        j += 1;
+    }
+}
+
+// Whether all rows sum to even numbers over the whole word. It looks at every sum, with no early way out.
+pub fn are_even(table: &[u8], m: usize, wide: usize, z: usize, word: &[u8], sums: &mut [u8]) -> bool
+    requires { ⌜ Shape (now table) m wide z × (length (now word) ≡ wide * z) × Sums (now table) m wide z (now word) 0 0 (now sums) ⌝ }
+    ensures { λ r. ⌜ r ≡ checks (now (table .entry)) m wide z (now (word .entry)) ⌝ }
+{
+    add_columns(table, m, wide, z, 0, wide, word, sums);
+    !bits::inner::some_over(0, sums)
+}

@@ -1,0 +1,70 @@
+-- What is known of a record that is judged with 0. Assumes nothing.
+use mathlib.Core.Path.{_≡_, refl}
+use mathlib.Core.Bool.{true, not}
+use mathlib.Core.List.{List, [], _∷_}
+use Prim.Native.Nat.{ℕ, _+_, _*_, _≤_, _<_}
+use lib.Dec.{lit<}
+use lib.ListN.{length, getD}
+use borrow.Author.Tests.{not-false}
+use Rattle.bits.specs.Ranges.{allTo}
+use Rattle.bits.proofs.Ranges.{both, all-at}
+use Rattle.bits.proofs.Answers.{passed}
+use Rattle.profile.specs.Record.{kb, m, t, z, offset, tableSize, table, offsetDue, tableRight, wellFormed}
+use Rattle.profile.specs.Staircase.{staircase, staircases}
+use Rattle.profile.specs.Promises.{judged}
+use Rattle.profile.specs.steps.Shape.{shapeRight}
+use Rattle.profile.proofs.Shape.{Shape, shape-is, table-long, rise, entries-below}
+
+pub record Accepted (R : List ℕ) : Type 0 where
+  pub kb-low : 1 ≤ kb R
+  pub kb-high : kb R ≤ 20
+  pub m-low : 3 ≤ m R
+  pub m-high : m R ≤ 12
+  pub t-low : 1 ≤ t R
+  pub t-high : t R ≤ 3
+  pub z-low : (i : ℕ) → i < t R → 1 ≤ z R i
+  pub z-high : (i : ℕ) → i < t R → z R i ≤ 81
+  pub rise : (i j : ℕ) → i < j → j < t R → z R i < z R j
+  pub chained : (i : ℕ) → i < t R → offset R i ≡ offsetDue R i
+  pub inside : (i : ℕ) → i < t R → offset R i + tableSize R ≤ length R
+  pub area : tableSize R ≡ m R * (kb R + m R)
+  pub long : (i : ℕ) → i < t R → length (table R i) ≡ tableSize R
+  pub shifts : (i : ℕ) → i < t R → (k : ℕ) → (getD (table R i) k 0 ≡ 255 → ⊥) → getD (table R i) k 0 < z R i
+  pub stairs : (i : ℕ) → i < t R → staircase (table R i) (kb R) (m R) ≡ true
+
+module _ (R : List ℕ) where
+  -- the tests that a record with number 0 has passed
+  pub tests-passed : judged R ≡ 0 → (shapeRight R ≡ true) × (allTo (t R) (tableRight R) ≡ true) × (staircases R ≡ true)
+  unfolding judged wellFormed shapeRight
+  tests-passed e =
+      let five = passed 5 ((6, not (staircases R)) ∷ []) (not (wellFormed R)) (lit< tt) e in
+      let six = passed 6 [] (not (staircases R)) (lit< tt) (five .1) in
+      let formed = both (shapeRight R) (allTo (t R) (tableRight R)) (not-false (wellFormed R) (five .0)) in
+      (formed .0, formed .1, not-false (staircases R) (six .0))
+
+  pub accepted-shape : judged R ≡ 0 → Shape R
+  accepted-shape e = shape-is R (tests-passed e .0)
+
+  pub accepted : judged R ≡ 0 → Accepted R
+  unfolding tableSize staircases
+  accepted e =
+      let tests = tests-passed e in
+      let s = accepted-shape e in
+      let low : (i : ℕ) → i < t R → 1 ≤ z R i = λ i l. s .size i l .z-low in
+      record {
+        kb-low = s .header .kb-low;
+        kb-high = s .header .kb-high;
+        m-low = s .header .m-low;
+        m-high = s .header .m-high;
+        t-low = s .header .t-low;
+        t-high = s .header .t-high;
+        z-low = low;
+        z-high = λ i l. s .size i l .z-high;
+        rise = rise R s;
+        chained = λ i l. s .size i l .chained;
+        inside = s .inside;
+        area = refl;
+        long = table-long R s;
+        shifts = λ i l. entries-below R i (low i l) (table-long R s i l) (all-at (t R) (tableRight R) (tests .1) i l);
+        stairs = λ i l. all-at (t R) (λ j. staircase (table R j) (kb R) (m R)) (tests .2) i l;
+      }

@@ -1,0 +1,7 @@
+pub mod Shape
+pub mod Stairs
+pub mod Accepted
+pub mod Rounding
+pub mod Plans
+pub mod Answers
+pub mod Agreement

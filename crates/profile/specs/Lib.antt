@@ -1,0 +1,5 @@
+pub mod Record
+pub mod Staircase
+pub mod Plan
+pub mod Promises
+pub mod steps

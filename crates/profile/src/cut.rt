@@ -1,0 +1,79 @@
+// How a transport block is cut by an accepted profile (document 01, "From block to radio bits", steps 1 to 3).
+use crate::Plan;
+use crate::inner;
+use bits::number::DONE;
+ghost use mathlib.Core.Path.{_≡_};
+ghost use Prim.Native.Nat.{_≤_, _<_};
+ghost use Rattle.profile.specs.Record.{t};
+ghost use Rattle.profile.specs.Plan.{ceil, kmax, blocks, sizeFor};
+ghost use Rattle.profile.specs.Promises.{judged};
+ghost use Rattle.profile.specs.steps.Cutting.{refusal, cutting};
+
+// a / b, rounded up.
+pub fn ceil(a: usize, b: usize) -> usize
+    requires { ⌜ (a ≤ 16408) × (0 < b) × (b ≤ 1620) ⌝ }
+    ensures { λ r. ⌜ r ≡ ceil a b ⌝ }
+{
+    (a + (b - 1)) / b
+}
+
+// The most places that a block can have: the sizes rise, so the last is the largest.
+pub fn kmax(profile: &[u8]) -> usize
+    requires { ⌜ judged (now profile) ≡ 0 ⌝ }
+    ensures { λ r. ⌜ (r ≡ kmax (now (profile .entry))) × (0 < r) × (r ≤ 1620) ⌝ }
+{
+    let last = inner::t(profile) - 1;
+    inner::kb(profile) * inner::z(profile, last)
+}
+
+// The first of the sizes, and so the smallest, that gives a block this many places. The last gives Kmax.
+fn size_for(profile: &[u8], need: usize) -> usize
+    requires { ⌜ judged (now profile) ≡ 0 ⌝ }
+    ensures { λ r. ⌜ (r ≡ sizeFor (now (profile .entry)) need) × (need ≤ kmax (now (profile .entry)) → r < t (now (profile .entry))) ⌝ }
+{
+    let kb = inner::kb(profile);
+    let t = inner::t(profile);
+    let mut i = 0;
+    while i < t {
+        if need <= kb * inner::z(profile, i) {
+            return i;
+        }
+        i += 1;
+    }
+    t
+}
+
+// With a refusal all else is 0.
+pub fn refused(number: u32) -> Plan
+    ensures { λ r. ⌜ r ≡ refusal number ⌝ }
+{
+    Plan {
+        number,
+        bits: 0,
+        kmax: 0,
+        blocks: 0,
+        places: 0,
+        z: 0,
+        size: 0,
+    }
+}
+
+// The plan of B bits in C blocks, which are `count`; `most` is Kmax.
+pub fn planned(profile: &[u8], bits: usize, most: usize, count: usize) -> Plan
+    requires { ⌜ (judged (now profile) ≡ 0) × (0 < bits) × (bits ≤ 16408) × (most ≡ kmax (now profile)) × (count ≡ blocks (now profile) bits) × (count ≤ 64) ⌝ }
+    ensures { λ r. ⌜ r ≡ cutting (now (profile .entry)) bits ⌝ }
+{
+    let need = ceil(bits, count);
+    let size = size_for(profile, need);
+    let z = inner::z(profile, size);
+    let places = inner::kb(profile) * z;
+    Plan {
+        number: DONE,
+        bits,
+        kmax: most,
+        blocks: count,
+        places,
+        z,
+        size,
+    }
+}

@@ -1,0 +1,144 @@
+// Whether a profile record is well formed (document 01, "Shelf and profile records"), tested from the front, so that what is read is there.
+use crate::parts;
+use crate::parts::EMPTY;
+ghost use mathlib.Core.Path.{_≡_};
+ghost use mathlib.Core.Bool.{true, _&&_};
+ghost use Prim.Native.Nat.{_+_, _*_, _≤_, _<_};
+ghost use lib.ListN.{length, getD};
+ghost use Rattle.bits.specs.Ranges.{allTo};
+ghost use Rattle.profile.specs.Record.{t, within, headerRight, lengthRight, rises, sizeRight, shiftRight, tableRight};
+ghost use Rattle.profile.specs.steps.Shape.{shapeRight};
+
+pub fn is_within(least: usize, most: usize, n: usize) -> bool
+    ensures { λ r. ⌜ r ≡ within least most n ⌝ }
+{
+    if n < least {
+        return false;
+    }
+    n <= most
+}
+
+fn ranges_right(kb: usize, m: usize, t: usize) -> bool
+    ensures { λ r. ⌜ r ≡ (within 1 20 kb && within 3 12 m && within 1 3 t) ⌝ }
+{
+    if !is_within(1, 20, kb) {
+        return false;
+    }
+    if !is_within(3, 12, m) {
+        return false;
+    }
+    is_within(1, 3, t)
+}
+
+fn header_right(profile: &[u8]) -> bool
+    ensures { λ r. ⌜ r ≡ headerRight (now (profile .entry)) ⌝ }
+{
+    if profile.len() < 6 {
+        return false;
+    }
+    ranges_right(parts::kb(profile), parts::m(profile), parts::t(profile))
+}
+
+fn length_right(profile: &[u8]) -> bool
+    requires { ⌜ headerRight (now profile) ≡ true ⌝ }
+    ensures { λ r. ⌜ r ≡ lengthRight (now (profile .entry)) ⌝ }
+{
+    let end = parts::offset_due(profile, parts::t(profile));
+    profile.len() == end
+}
+
+fn is_rising(profile: &[u8], i: usize) -> bool
+    requires { ⌜ 10 + 4 * i ≤ length (now profile) ⌝ }
+    ensures { λ r. ⌜ r ≡ rises (now (profile .entry)) i ⌝ }
+{
+    if i == 0 {
+        return true;
+    }
+    parts::z(profile, i - 1) < parts::z(profile, i)
+}
+
+fn size_right(profile: &[u8], i: usize) -> bool
+    requires { ⌜ (headerRight (now profile) ≡ true) × (10 + 4 * i ≤ length (now profile)) × (i ≤ 3) ⌝ }
+    ensures { λ r. ⌜ r ≡ sizeRight (now (profile .entry)) i ⌝ }
+{
+    if !is_within(1, 81, parts::z(profile, i)) {
+        return false;
+    }
+    if !is_rising(profile, i) {
+        return false;
+    }
+    parts::offset(profile, i) == parts::offset_due(profile, i)
+}
+
+fn sizes_right(profile: &[u8]) -> bool
+    requires { ⌜ (headerRight (now profile) ≡ true) × (lengthRight (now profile) ≡ true) ⌝ }
+    ensures { λ r. ⌜ r ≡ allTo (t (now (profile .entry))) (sizeRight (now (profile .entry))) ⌝ }
+{
+    let t = parts::t(profile);
+    let mut i = 0;
+    while i < t {
+        if !size_right(profile, i) {
+            return false;
+        }
+        i += 1;
+    }
+    true
+}
+
+// All but the entries: where this holds, every table can be read.
+pub fn shape_right(profile: &[u8]) -> bool
+    ensures { λ r. ⌜ r ≡ shapeRight (now (profile .entry)) ⌝ }
+{
+    if !header_right(profile) {
+        return false;
+    }
+    if !length_right(profile) {
+        return false;
+    }
+    sizes_right(profile)
+}
+
+fn shift_right(z: usize, s: u8) -> bool
+    ensures { λ r. ⌜ r ≡ shiftRight z s ⌝ }
+{
+    if s == EMPTY {
+        return true;
+    }
+    bits::inner::wide(s) < z
+}
+
+fn shifts_right(z: usize, table: &[u8]) -> bool
+    ensures { λ r. ⌜ r ≡ allTo (length (now (table .entry))) (λ k. shiftRight z (getD (now (table .entry)) k 0)) ⌝ }
+{
+    let mut k = 0;
+    while k < table.len() {
+        if !shift_right(z, table[k]) {
+            return false;
+        }
+        k += 1;
+    }
+    true
+}
+
+fn table_right(profile: &[u8], i: usize) -> bool
+    requires { ⌜ (shapeRight (now profile) ≡ true) × (i < t (now profile)) ⌝ }
+    ensures { λ r. ⌜ r ≡ tableRight (now (profile .entry)) i ⌝ }
+{
+    shifts_right(parts::z(profile, i), parts::table(profile, i))
+}
+
+// The entries of every table.
+pub fn tables_right(profile: &[u8]) -> bool
+    requires { ⌜ shapeRight (now profile) ≡ true ⌝ }
+    ensures { λ r. ⌜ r ≡ allTo (t (now (profile .entry))) (tableRight (now (profile .entry))) ⌝ }
+{
+    let t = parts::t(profile);
+    let mut i = 0;
+    while i < t {
+        if !table_right(profile, i) {
+            return false;
+        }
+        i += 1;
+    }
+    true
+}

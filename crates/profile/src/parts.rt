@@ -1,0 +1,71 @@
+// Reading a profile record: its numbers and its tables.
+ghost use mathlib.Core.Path.{_≡_};
+ghost use mathlib.Core.Bool.{true};
+ghost use Prim.Native.Nat.{_+_, _*_, _≤_, _<_};
+ghost use lib.ListN.{length};
+ghost use Rattle.profile.specs.Record.{kb, m, t, z, offset, tableSize, table, headerRight, offsetDue};
+
+// An entry that holds no shift.
+pub const EMPTY: u8 = 255;
+
+// The header's three numbers.
+pub fn kb(profile: &[u8]) -> usize
+    requires { ⌜ 6 ≤ length (now profile) ⌝ }
+    ensures { λ r. ⌜ (r ≡ kb (now (profile .entry))) × (r < 65536) ⌝ }
+{
+    bits::inner::number_at(profile, 0)
+}
+
+pub fn m(profile: &[u8]) -> usize
+    requires { ⌜ 6 ≤ length (now profile) ⌝ }
+    ensures { λ r. ⌜ (r ≡ m (now (profile .entry))) × (r < 65536) ⌝ }
+{
+    bits::inner::number_at(profile, 2)
+}
+
+pub fn t(profile: &[u8]) -> usize
+    requires { ⌜ 6 ≤ length (now profile) ⌝ }
+    ensures { λ r. ⌜ (r ≡ t (now (profile .entry))) × (r < 65536) ⌝ }
+{
+    bits::inner::number_at(profile, 4)
+}
+
+// The pair of a size: its z and its offset.
+pub fn z(profile: &[u8], i: usize) -> usize
+    requires { ⌜ 10 + 4 * i ≤ length (now profile) ⌝ }
+    ensures { λ r. ⌜ (r ≡ z (now (profile .entry)) i) × (r < 65536) ⌝ }
+{
+    bits::inner::number_at(profile, 6 + 4 * i)
+}
+
+pub fn offset(profile: &[u8], i: usize) -> usize
+    requires { ⌜ 10 + 4 * i ≤ length (now profile) ⌝ }
+    ensures { λ r. ⌜ (r ≡ offset (now (profile .entry)) i) × (r < 65536) ⌝ }
+{
+    bits::inner::number_at(profile, 8 + 4 * i)
+}
+
+// How many octets a table has.
+pub fn table_size(profile: &[u8]) -> usize
+    requires { ⌜ headerRight (now profile) ≡ true ⌝ }
+    ensures { λ r. ⌜ (r ≡ tableSize (now (profile .entry))) × (r ≤ 384) ⌝ }
+{
+    m(profile) * (kb(profile) + m(profile))
+}
+
+// Where a table is due to start; asked past the last table, where the record is due to end.
+pub fn offset_due(profile: &[u8], i: usize) -> usize
+    requires { ⌜ (headerRight (now profile) ≡ true) × (i ≤ 3) ⌝ }
+    ensures { λ r. ⌜ r ≡ offsetDue (now (profile .entry)) i ⌝ }
+{
+    6 + 4 * t(profile) + i * table_size(profile)
+}
+
+pub fn table(profile: &[u8], i: usize) -> &[u8]
+    requires { ⌜ (headerRight (now profile) ≡ true) × (10 + 4 * i ≤ length (now profile)) × (offset (now profile) i + tableSize (now profile) ≤ length (now profile)) ⌝ }
+    ensures { λ r. ⌜ now r ≡ table (now (profile .entry)) i ⌝ }
+{
+    let start = offset(profile, i);
+    let end = start + table_size(profile);
+    &profile[start..end]
+}

@@ -1,0 +1,143 @@
+// Whether every table is a staircase (document 01, "Shelf and profile records"): each row between is tried as the middle one.
+use crate::parts;
+use crate::parts::EMPTY;
+ghost use mathlib.Core.Path.{_≡_};
+ghost use mathlib.Core.Bool.{true};
+ghost use Prim.Native.Nat.{_-_, _<_, _≤_};
+ghost use Rattle.bits.specs.Ranges.{allTo, anyTo};
+ghost use Rattle.profile.specs.Staircase.{firstDue, nextDue, rowRight, stairsAt, staircase, staircases};
+ghost use Rattle.profile.specs.steps.Shape.{shapeRight, Sized, nextRight};
+
+// The shift of column kb in the middle row, and of the columns after it in their two rows.
+const MIDDLE: u8 = 0;
+
+const STEP: u8 = 0;
+
+// What column kb is due to hold in a row.
+fn first_due(m: usize, outer: u8, middle: usize, row: usize) -> u8
+    requires { ⌜ row < m ⌝ }
+    ensures { λ r. ⌜ r ≡ firstDue m outer middle row ⌝ }
+{
+    if row == middle {
+        return MIDDLE;
+    }
+    if row == 0 {
+        return outer;
+    }
+    if row + 1 == m {
+        return outer;
+    }
+    EMPTY
+}
+
+// What the j-th column after it is due to hold.
+fn next_due(j: usize, row: usize) -> u8
+    requires { ⌜ row ≤ 12 ⌝ }
+    ensures { λ r. ⌜ r ≡ nextDue j row ⌝ }
+{
+    if row + 1 == j {
+        return STEP;
+    }
+    if row == j {
+        return STEP;
+    }
+    EMPTY
+}
+
+// The columns after column kb, in a row.
+fn next_right(table: &[u8], kb: usize, m: usize, row: usize) -> bool
+    requires { ⌜ Sized (now table) kb m × (row < m) ⌝ }
+    ensures { λ r. ⌜ r ≡ allTo (m - 1) (nextRight (now (table .entry)) kb m row) ⌝ }
+{
+    let first = row * (kb + m) + kb + 1;
+    let n = m - 1;
+    let mut j = 0;
+    while j < n {
+        if table[first + j] != next_due(j + 1, row) {
+            return false;
+        }
+        j += 1;
+    }
+    true
+}
+
+fn row_right(table: &[u8], kb: usize, m: usize, middle: usize, row: usize) -> bool
+    requires { ⌜ Sized (now table) kb m × (row < m) ⌝ }
+    ensures { λ r. ⌜ r ≡ rowRight (now (table .entry)) kb m middle row ⌝ }
+{
+    let at = row * (kb + m) + kb;
+    let outer = table[kb];
+    if table[at] != first_due(m, outer, middle, row) {
+        return false;
+    }
+    next_right(table, kb, m, row)
+}
+
+fn rows_right(table: &[u8], kb: usize, m: usize, middle: usize) -> bool
+    requires { ⌜ Sized (now table) kb m ⌝ }
+    ensures { λ r. ⌜ r ≡ allTo m (rowRight (now (table .entry)) kb m middle) ⌝ }
+{
+    let mut row = 0;
+    while row < m {
+        if !row_right(table, kb, m, middle, row) {
+            return false;
+        }
+        row += 1;
+    }
+    true
+}
+
+fn stairs_at(table: &[u8], kb: usize, m: usize, middle: usize) -> bool
+    requires { ⌜ Sized (now table) kb m × (middle < m) ⌝ }
+    ensures { λ r. ⌜ r ≡ stairsAt (now (table .entry)) kb m middle ⌝ }
+{
+    if middle < 1 {
+        return false;
+    }
+    if m <= middle + 1 {
+        return false;
+    }
+    rows_right(table, kb, m, middle)
+}
+
+fn some_stairs(table: &[u8], kb: usize, m: usize) -> bool
+    requires { ⌜ Sized (now table) kb m ⌝ }
+    ensures { λ r. ⌜ r ≡ anyTo m (stairsAt (now (table .entry)) kb m) ⌝ }
+{
+    let mut middle = 0;
+    while middle < m {
+        if stairs_at(table, kb, m, middle) {
+            return true;
+        }
+        middle += 1;
+    }
+    false
+}
+
+fn is_staircase(table: &[u8], kb: usize, m: usize) -> bool
+    requires { ⌜ Sized (now table) kb m ⌝ }
+    ensures { λ r. ⌜ r ≡ staircase (now (table .entry)) kb m ⌝ }
+{
+    if table[kb] == EMPTY {
+        return false;
+    }
+    some_stairs(table, kb, m)
+}
+
+// Every table of a record whose tables can be read.
+pub fn staircases(profile: &[u8]) -> bool
+    requires { ⌜ shapeRight (now profile) ≡ true ⌝ }
+    ensures { λ r. ⌜ r ≡ staircases (now (profile .entry)) ⌝ }
+{
+    let kb = parts::kb(profile);
+    let m = parts::m(profile);
+    let t = parts::t(profile);
+    let mut i = 0;
+    while i < t {
+        if !is_staircase(parts::table(profile, i), kb, m) {
+            return false;
+        }
+        i += 1;
+    }
+    true
+}

@@ -1,3 +1,0 @@
--- Laws that the proofs of several functions cite.
-pub mod Counted
-pub mod Digits

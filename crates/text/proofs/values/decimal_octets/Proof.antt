@@ -1,0 +1,68 @@
+-- `text::values::decimal_octets` meets its contract. The loop's invariant: the store keeps its length, and `i` is at most the count of digits.
+use Prim.Native.Nat.{_-_, _≤_}
+use mathlib.Core.Path.{_≡_}
+use lib.ListN.{length}
+use borrow.Author.Needs.{needs}
+use Rattle.text.proofs.values.decimal_octets.Statement.{statement}
+use Rattle.text.proofs.values.decimal_octets.Tie as tie
+
+abbrev Inv-loop : tie.InvT-loop
+Inv-loop digits store₀ i₀ store i = (length store ≡ length store₀) × (i ≤ length digits)
+
+abbrev μ-loop : tie.MeasureT-loop
+μ-loop digits store₀ i₀ store i = length digits - i
+
+returns : tie.Need-returns Inv-loop μ-loop
+returns c = search needs
+
+loop-holds : tie.Need-loop-holds Inv-loop μ-loop
+loop-holds c = search needs
+
+shared-slice-read-digit : tie.Need-shared-slice-read-digit Inv-loop μ-loop
+shared-slice-read-digit c = search needs
+
+digit-requires : tie.Need-digit-requires Inv-loop μ-loop
+digit-requires c κs = search needs
+
+same-length : tie.Need-same-length Inv-loop μ-loop
+same-length c = search needs
+
+returns-2 : tie.Need-returns-2 Inv-loop μ-loop
+returns-2 c = search needs
+
+slice-write-store : tie.Need-slice-write-store Inv-loop μ-loop
+slice-write-store c = search needs
+
+add-i : tie.Need-add-i Inv-loop μ-loop
+add-i c = search needs
+
+loop-less : tie.Need-loop-less Inv-loop μ-loop
+loop-less c = search needs
+
+loop-again : tie.Need-loop-again Inv-loop μ-loop
+loop-again c = search needs
+
+same-length-2 : tie.Need-same-length-2 Inv-loop μ-loop
+same-length-2 c = search needs
+
+returns-3 : tie.Need-returns-3 Inv-loop μ-loop
+returns-3 c = search needs
+
+pub decimal-octets-spec : {M : Type 1} → statement M
+decimal-octets-spec =
+    tie.close
+    (tie.spec
+    Inv-loop
+    μ-loop
+    returns
+    loop-holds
+    shared-slice-read-digit
+    digit-requires
+    same-length
+    returns-2
+    slice-write-store
+    add-i
+    loop-less
+    loop-again
+    same-length-2
+    returns-3)

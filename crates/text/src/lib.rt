@@ -1,0 +1,8 @@
+// Text of requests and answers: words and what they hold, and numbers and octets as digits.
+pub mod faults;
+pub mod forms;
+pub mod numbers;
+pub mod octets;
+pub mod shown;
+mod values;
+pub mod words;

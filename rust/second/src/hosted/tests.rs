@@ -1,0 +1,159 @@
+//! The hosted calls: they do as sending and receiving with the record that is found.
+
+use super::{hosted_receive, hosted_send};
+use crate::draft::ShelfDraft;
+use crate::numbers::{
+    Number, BLOCK_LENGTH, FEW_PLACES, MANY_BLOCKS, NO_BIT, NO_RECORD, OUTPUT, PARAMETER,
+    PRIVATE_SHELF, PUBLIC_SHELF, RECORD, SHORT_SHARE, STAIRCASE, TENANT_0, UNSENT,
+};
+use crate::samples::{plain, TOY};
+use crate::send::send;
+use crate::shelf::Asked;
+use crate::transfer;
+
+const G_128: transfer::Asked = transfer::Asked {
+    layers: 1,
+    order: 2,
+    g: 128,
+};
+
+/// Tenants 1 and 2 have a record 7 each, tenant 3 an empty one, and the toy is public record 7.
+fn shelves(tenant: u16, profile: u16) -> Asked {
+    let other = plain(2, 4, &[5]).octets();
+    let third = plain(1, 3, &[2]).octets();
+    Asked {
+        private: ShelfDraft::new(&[(1, 7, &other), (2, 7, &third), (3, 7, &[])]).octets(),
+        public: ShelfDraft::new(&[(0, 7, &TOY), (0, 8, &TOY[..21]), (0, 9, &no_staircase())])
+            .octets(),
+        tenant,
+        profile,
+    }
+}
+
+fn no_staircase() -> [u8; 22] {
+    let mut record = TOY;
+    record[12] = 1;
+    record
+}
+
+fn sent(shelves: &Asked, block: &[u8]) -> Result<Vec<u8>, Number> {
+    let mut output = vec![7; 128];
+    let count = hosted_send(shelves, block, G_128, &mut output)?;
+    output.truncate(count);
+    Ok(output)
+}
+
+fn received(shelves: &Asked, bits: &[u8]) -> Result<Vec<u8>, Number> {
+    let mut output = vec![7; 4];
+    let count = hosted_receive(shelves, 8, 1, 2, bits, &mut output)?;
+    output.truncate(count);
+    Ok(output)
+}
+
+/// What sending gives with a record of its own.
+fn sent_with(record: &[u8]) -> Vec<u8> {
+    let mut output = vec![7; 128];
+    assert_eq!(send(record, &[0x01], G_128, &mut output), Ok(128));
+    output
+}
+
+#[test]
+fn each_tenant_is_served_from_its_own_record_or_the_public_one() {
+    let own = [plain(2, 4, &[5]).octets(), plain(1, 3, &[2]).octets()];
+    assert_eq!(sent(&shelves(1, 7), &[0x01]), Ok(sent_with(&own[0])));
+    assert_eq!(sent(&shelves(2, 7), &[0x01]), Ok(sent_with(&own[1])));
+    assert_eq!(sent(&shelves(4, 7), &[0x01]), Ok(sent_with(&TOY)));
+    assert_ne!(sent_with(&own[0]), sent_with(&TOY));
+    assert_ne!(sent_with(&own[1]), sent_with(&TOY));
+}
+
+#[test]
+fn what_was_sent_is_received_by_the_same_tenant() {
+    for tenant in [2, 4] {
+        let bits = sent(&shelves(tenant, 7), &[0x01]).unwrap();
+        assert_eq!(received(&shelves(tenant, 7), &bits), Ok(vec![0x01]));
+        assert_eq!(received(&shelves(6 - tenant, 7), &bits), Err(UNSENT));
+    }
+}
+
+#[test]
+fn other_tenants_records_decide_nothing() {
+    // Demand 2: two private shelves that agree on a tenant's records.
+    let mut left = shelves(2, 7);
+    let mut right = shelves(2, 7);
+    let record = plain(1, 3, &[2]).octets();
+    left.private = ShelfDraft::new(&[(2, 7, &record)]).octets();
+    right.private =
+        ShelfDraft::new(&[(1, 7, &[1]), (1, 9, &TOY), (2, 7, &record), (9, 7, &TOY)]).octets();
+    let bits = sent(&left, &[0x01]).unwrap();
+    assert_eq!(sent(&right, &[0x01]), Ok(bits.clone()));
+    assert_eq!(received(&left, &bits), received(&right, &bits));
+}
+
+#[test]
+fn the_numbers_of_a_lookup_go_first() {
+    let mut broken = shelves(1, 7);
+    broken.private.push(0);
+    let mut public = shelves(1, 7);
+    public.public.push(0);
+    for (shelves, number) in [
+        (shelves(0, 7), TENANT_0),
+        (broken, PRIVATE_SHELF),
+        (public, PUBLIC_SHELF),
+        (shelves(1, 10), NO_RECORD),
+    ] {
+        // The block and the bits are refused too, with higher numbers.
+        assert_eq!(sent(&shelves, &[]), Err(number));
+        assert_eq!(received(&shelves, &[9]), Err(number));
+    }
+}
+
+#[test]
+fn a_record_of_length_0_is_found_and_not_well_formed() {
+    assert_eq!(sent(&shelves(3, 7), &[0x01]), Err(RECORD));
+    assert_eq!(received(&shelves(3, 7), &[0; 128]), Err(RECORD));
+}
+
+#[test]
+fn then_the_numbers_of_sending() {
+    assert_eq!(sent(&shelves(4, 8), &[0x01]), Err(RECORD));
+    assert_eq!(sent(&shelves(4, 9), &[0x01]), Err(STAIRCASE));
+    assert_eq!(sent(&shelves(4, 7), &[]), Err(BLOCK_LENGTH));
+    assert_eq!(sent(&shelves(4, 7), &[0; 14]), Err(MANY_BLOCKS));
+    let asked = |layers, g| transfer::Asked {
+        layers,
+        order: 2,
+        g,
+    };
+    let send = |asked| hosted_send(&shelves(4, 7), &[0x01], asked, &mut [0; 127]);
+    assert_eq!(send(asked(0, 128)), Err(PARAMETER));
+    assert_eq!(send(asked(1, 30)), Err(FEW_PLACES));
+    assert_eq!(send(asked(1, 128)), Err(OUTPUT));
+    assert_eq!(send(asked(1, 126)), Ok(126));
+}
+
+#[test]
+fn then_the_numbers_of_receiving() {
+    let receive = |a, bits: &[u8], length: usize| {
+        hosted_receive(&shelves(4, 7), a, 1, 2, bits, &mut vec![0; length])
+    };
+    assert_eq!(receive(9, &[0; 128], 1), Err(BLOCK_LENGTH));
+    assert_eq!(receive(8, &[0; 129], 1), Err(PARAMETER));
+    assert_eq!(receive(112, &[0; 128], 14), Err(MANY_BLOCKS));
+    assert_eq!(receive(8, &[0; 30], 1), Err(FEW_PLACES));
+    assert_eq!(receive(8, &[0; 128], 0), Err(OUTPUT));
+    assert_eq!(receive(8, &[2; 128], 1), Err(NO_BIT));
+    assert_eq!(receive(8, &[0; 126], 1), Err(SHORT_SHARE));
+    assert_eq!(receive(8, &[1; 128], 1), Err(UNSENT));
+    assert_eq!(receive(8, &[0; 128], 1), Ok(1));
+}
+
+#[test]
+fn a_refusal_changes_nothing() {
+    let mut output = [7; 4];
+    for shelves in [shelves(0, 7), shelves(1, 10), shelves(3, 7), shelves(4, 9)] {
+        assert!(hosted_send(&shelves, &[0x01], G_128, &mut output).is_err());
+        assert!(hosted_receive(&shelves, 8, 1, 2, &[0; 128], &mut output).is_err());
+    }
+    assert_eq!(output, [7; 4]);
+}

@@ -1,0 +1,274 @@
+//! Coding and checking: the worked words, each refusal, and what holds of every profile.
+
+use super::{check, encode, spread_out, table, Code, FILLER};
+use crate::draft::EMPTY;
+use crate::matrix::Row;
+use crate::numbers::{Number, NO_BIT, NO_PARITY, OUTPUT, PARAMETER, RECORD, STAIRCASE};
+use crate::random::Random;
+use crate::record::{profile, Entry, Profile, Table};
+use crate::samples::{five_sixths, half, plain, TOY};
+
+/// Codes with room enough.
+fn coded(record: &[u8], z: u64, places: &[u8]) -> Result<Vec<u8>, Number> {
+    let mut output = vec![0; 3000];
+    let count = encode(record, z, places, &mut output)?;
+    output.truncate(count);
+    Ok(output)
+}
+
+fn bits(count: usize, random: &mut Random) -> Vec<u8> {
+    (0..count).map(|_| random.pick(&[0, 1])).collect()
+}
+
+/// The low binary digits of a number, as a word.
+fn binary(number: usize, places: usize) -> Vec<u8> {
+    (0..places)
+        .map(|place| u8::from(number >> place & 1 == 1))
+        .collect()
+}
+
+#[test]
+fn the_words_of_the_toy() {
+    // Document 01, P6 to P9.
+    for (places, word) in [
+        ([0, 0], [0, 0, 0, 0, 0, 0, 0, 0]),
+        ([0, 1], [0, 1, 1, 1, 1, 0, 1, 1]),
+        ([1, 0], [1, 0, 1, 1, 0, 1, 1, 1]),
+        ([1, 1], [1, 1, 0, 0, 1, 1, 0, 0]),
+    ] {
+        assert_eq!(coded(&TOY, 2, &places), Ok(word.to_vec()));
+        assert_eq!(check(&TOY, 2, &word), Ok(true));
+    }
+}
+
+#[test]
+fn the_toy_has_four_words_that_check() {
+    let checking: Vec<Vec<u8>> = (0..256)
+        .map(|number| binary(number, 8))
+        .filter(|word| check(&TOY, 2, word) == Ok(true))
+        .collect();
+    assert_eq!(checking.len(), 4);
+    for word in checking {
+        assert_eq!(coded(&TOY, 2, &word[..2]), Ok(word));
+    }
+}
+
+#[test]
+fn the_toy_spread_out() {
+    // Shift 0 is 10 / 01, shift 1 is 01 / 10.
+    let toy = profile(&TOY).unwrap();
+    let rows = [
+        [1, 0, 0, 1, 1, 0, 0, 0],
+        [0, 1, 1, 0, 0, 1, 0, 0],
+        [0, 1, 1, 0, 1, 0, 1, 0],
+        [1, 0, 0, 1, 0, 1, 0, 1],
+        [0, 0, 0, 1, 0, 0, 1, 0],
+        [0, 0, 1, 0, 0, 0, 0, 1],
+    ];
+    let rows = rows.map(|row| Row::of(&row)).to_vec();
+    assert_eq!(spread_out(&toy.tables[0], 0..4).rows, rows);
+}
+
+#[test]
+fn row_i_of_shift_s_has_its_one_in_column_i_plus_s() {
+    // A slip of document 01: "place (i−s) for (i+s)".
+    let table = Table {
+        z: 5,
+        rows: vec![vec![Entry::Shift(2), Entry::Empty]],
+    };
+    let matrix = spread_out(&table, 0..2);
+    assert_eq!((matrix.rows.len(), matrix.columns), (5, 10));
+    for i in 0..5 {
+        for column in 0..10 {
+            assert_eq!(matrix.rows[i].bit(column), column == (i + 2) % 5);
+        }
+    }
+}
+
+#[test]
+fn a_word_with_a_shift_that_has_two_directions() {
+    // Kb 1, z 3, one entry 1 left of the staircase, outer shift 0: with s = (x1, x2, x0) summed
+    // over rows 0, 1 and 2 the first parity group is s, and all others are worked out by hand.
+    let mut draft = plain(1, 3, &[3]);
+    draft.tables[0] = vec![
+        vec![1, 0, 0, EMPTY],
+        vec![EMPTY, 0, 0, 0],
+        vec![EMPTY, 0, EMPTY, 0],
+    ];
+    // Row 0: s + p0 + p1 = 0; row 1: p0 + p1 + p2 = 0; row 2: p0 + p2 = 0. Row 1 and row 2 give
+    // p1 = 0, so p0 = s and p2 = s.
+    let word = coded(&draft.octets(), 3, &[1, 0, 0]).unwrap();
+    assert_eq!(word, [1, 0, 0, 0, 0, 1, 0, 0, 0, 0, 0, 1]);
+}
+
+#[test]
+fn filler_is_read_as_0_and_stays_marked() {
+    // The words 00 and 10 with marks, also with every place marked.
+    assert_eq!(
+        coded(&TOY, 2, &[1, FILLER]),
+        Ok(vec![1, 2, 1, 1, 0, 1, 1, 1])
+    );
+    assert_eq!(
+        coded(&TOY, 2, &[FILLER, 1]),
+        Ok(vec![2, 1, 1, 1, 1, 0, 1, 1])
+    );
+    assert_eq!(
+        coded(&TOY, 2, &[FILLER, FILLER]),
+        Ok(vec![2, 2, 0, 0, 0, 0, 0, 0])
+    );
+}
+
+#[test]
+fn every_coded_block_checks() {
+    let mut random = Random::new(1);
+    for draft in [
+        half(),
+        five_sixths(),
+        plain(20, 12, &[81]),
+        plain(1, 3, &[1]),
+    ] {
+        for &z in &draft.sizes {
+            let places = bits(usize::from(draft.kb * z), &mut random);
+            let word = coded(&draft.octets(), u64::from(z), &places).unwrap();
+            assert_eq!(word.len(), usize::from((draft.kb + draft.m) * z));
+            assert_eq!(word[..places.len()], places);
+            assert_eq!(check(&draft.octets(), u64::from(z), &word), Ok(true));
+            for place in [0, places.len() - 1, places.len(), word.len() - 1] {
+                let mut changed = word.clone();
+                changed[place] = 1 - changed[place];
+                assert_eq!(check(&draft.octets(), u64::from(z), &changed), Ok(false));
+            }
+        }
+    }
+}
+
+#[test]
+fn all_words_that_check_are_coded_blocks() {
+    // Kb 2, m 3, z 2: 1,024 words, of which the 16 blocks give 16.
+    let mut draft = plain(2, 3, &[2]);
+    draft.tables[0][0][0] = 1;
+    draft.tables[0][2][1] = EMPTY;
+    let record = draft.octets();
+    let checking: Vec<Vec<u8>> = (0..1024)
+        .map(|number| binary(number, 10))
+        .filter(|word| check(&record, 2, word) == Ok(true))
+        .collect();
+    assert_eq!(checking.len(), 16);
+    for word in checking {
+        assert_eq!(coded(&record, 2, &word[..4]), Ok(word));
+    }
+}
+
+#[test]
+fn a_block_without_parity_bits_is_refused() {
+    // No accepted table is like this one: its parity columns are empty.
+    let table = Table {
+        z: 2,
+        rows: vec![vec![Entry::Shift(0), Entry::Empty]],
+    };
+    let profile = Profile {
+        kb: 1,
+        m: 1,
+        tables: vec![table],
+    };
+    let code = Code::new(&profile, 2);
+    assert_eq!(code.coded(&[0, 0]), Ok(vec![0, 0, 0, 0]));
+    assert_eq!(code.coded(&[0, FILLER]), Ok(vec![0, 2, 0, 0]));
+    assert_eq!(code.coded(&[0, 1]), Err(NO_PARITY));
+}
+
+#[test]
+fn a_z_that_the_profile_does_not_give_is_refused() {
+    let record = half().octets();
+    for z in [27, 54, 81] {
+        let places = vec![0; 12 * z];
+        assert!(coded(&record, z as u64, &places).is_ok());
+        let word = vec![0; 24 * z];
+        assert_eq!(check(&record, z as u64, &word), Ok(true));
+    }
+    for z in [
+        0,
+        1,
+        26,
+        28,
+        53,
+        55,
+        80,
+        82,
+        27 + 256,
+        27 + 65_536,
+        27 + (1 << 32),
+        u64::MAX,
+    ] {
+        assert_eq!(coded(&record, z, &[0; 324]), Err(PARAMETER), "{z}");
+        assert_eq!(check(&record, z, &[0; 648]), Err(PARAMETER), "{z}");
+    }
+    let accepted = profile(&record).unwrap();
+    assert_eq!(table(&accepted, 54).map(|table| table.z), Ok(54));
+}
+
+#[test]
+fn a_length_that_the_profile_does_not_give_is_refused() {
+    for length in (0..20).filter(|&length| length != 2) {
+        assert_eq!(coded(&TOY, 2, &vec![0; length]), Err(PARAMETER));
+    }
+    for length in (0..20).filter(|&length| length != 8) {
+        assert_eq!(check(&TOY, 2, &vec![0; length]), Err(PARAMETER));
+    }
+    // The length that goes with another z of the profile.
+    let record = half().octets();
+    assert_eq!(coded(&record, 27, &[0; 648]), Err(PARAMETER));
+    assert_eq!(check(&record, 27, &[0; 1296]), Err(PARAMETER));
+}
+
+#[test]
+fn the_output_has_room_for_the_coded_block() {
+    for length in 0..8 {
+        let mut output = vec![7; length];
+        assert_eq!(encode(&TOY, 2, &[0, 1], &mut output), Err(OUTPUT));
+        assert_eq!(output, vec![7; length]);
+    }
+    for length in 8..12 {
+        let mut output = vec![7; length];
+        assert_eq!(encode(&TOY, 2, &[0, 1], &mut output), Ok(8));
+        assert_eq!(output[..8], [0, 1, 1, 1, 1, 0, 1, 1]);
+        assert_eq!(output[8..], vec![7; length - 8]);
+    }
+}
+
+#[test]
+fn octets_over_2_are_refused_in_a_block_and_over_1_in_a_word() {
+    for octet in 3..=255 {
+        assert_eq!(coded(&TOY, 2, &[octet, 0]), Err(NO_BIT));
+        assert_eq!(coded(&TOY, 2, &[0, octet]), Err(NO_BIT));
+    }
+    for octet in 2..=255 {
+        for place in 0..8 {
+            let mut word = [0; 8];
+            word[place] = octet;
+            assert_eq!(check(&TOY, 2, &word), Err(NO_BIT));
+        }
+    }
+}
+
+#[test]
+fn the_lowest_number_is_answered() {
+    let mut not_well_formed = TOY;
+    not_well_formed[10] = 2;
+    let mut no_staircase = TOY;
+    no_staircase[12] = 1;
+    let encode = |record: &[u8], z, places: &[u8], room: usize| {
+        encode(record, z, places, &mut vec![0; room])
+    };
+    assert_eq!(encode(&not_well_formed, 3, &[9], 0), Err(RECORD));
+    assert_eq!(encode(&no_staircase, 3, &[9], 0), Err(STAIRCASE));
+    assert_eq!(encode(&TOY, 3, &[9], 0), Err(PARAMETER));
+    assert_eq!(encode(&TOY, 2, &[9], 0), Err(PARAMETER));
+    assert_eq!(encode(&TOY, 2, &[9, 9], 7), Err(OUTPUT));
+    assert_eq!(encode(&TOY, 2, &[9, 9], 8), Err(NO_BIT));
+    assert_eq!(check(&not_well_formed, 3, &[9]), Err(RECORD));
+    assert_eq!(check(&no_staircase, 3, &[9]), Err(STAIRCASE));
+    assert_eq!(check(&TOY, 3, &[9]), Err(PARAMETER));
+    assert_eq!(check(&TOY, 2, &[9]), Err(PARAMETER));
+    assert_eq!(check(&TOY, 2, &[9; 8]), Err(NO_BIT));
+}

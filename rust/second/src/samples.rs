@@ -1,0 +1,161 @@
+//! Records that are known from the documents: the toy, and Type 1 tables of 5G.212 v2.3.
+
+use crate::draft::{with_staircase, Draft, Rows, EMPTY};
+
+/// The toy record of document 01, "Small profile and worked numbers".
+pub const TOY: [u8; 22] = [
+    0x00, 0x01, 0x00, 0x03, 0x00, 0x01, 0x00, 0x02, 0x00, 0x0a, 0x00, 0x01, 0x00, 0xff, 0x01, 0x00,
+    0x00, 0x00, 0xff, 0x01, 0xff, 0x00,
+];
+
+/// Table 5.1.3.2-2, rate 5/6, for Z 27, 54 and 81. Every row has its 24 numbers.
+const FIVE_SIXTHS: [&str; 3] = [
+    "17 13 8 21 9 3 18 12 10 0 4 15 19 2 5 10 26 19 13 13 1 0 -1 -1
+     3 12 11 14 11 25 5 18 0 9 2 26 26 10 24 7 14 20 4 2 -1 0 0 -1
+     22 16 4 3 10 21 12 5 21 14 19 5 -1 8 5 18 11 5 5 15 0 -1 0 0
+     7 7 14 14 4 16 16 24 24 10 1 7 15 6 10 26 8 18 21 14 1 -1 -1 0",
+    "48 29 37 52 2 16 6 14 53 31 34 5 18 42 53 31 45 -1 46 52 1 0 -1 -1
+     17 4 30 7 43 11 24 6 14 21 6 39 17 40 47 7 15 41 19 -1 -1 0 0 -1
+     7 2 51 31 46 23 16 11 53 40 10 7 46 53 33 35 -1 25 35 38 0 -1 0 0
+     19 48 41 1 10 7 36 47 5 29 52 52 31 10 26 6 3 2 -1 51 1 -1 -1 0",
+    "13 48 80 66 4 74 7 30 76 52 37 60 -1 49 73 31 74 73 23 -1 1 0 -1 -1
+     69 63 74 56 64 77 57 65 6 16 51 -1 64 -1 68 9 48 62 54 27 -1 0 0 -1
+     51 15 0 80 24 25 42 54 44 71 71 9 67 35 -1 58 -1 29 -1 53 0 -1 0 0
+     16 29 36 41 44 56 59 37 50 24 -1 65 4 65 52 -1 4 -1 73 52 1 -1 -1 0",
+];
+
+/// Table 5.1.3.2-5, rate 1/2, for Z 27, 54 and 81, as extracted: a row has 22 to 25 numbers where
+/// 24 are due, since some of the -1 behind its 13th number are lost and one is there twice.
+const HALF: [&str; 3] = [
+    "0  -1 -1 -1 0  0 -1 -1 0 -1 -1 0  1  0 -1 -1 -1 -1 -1 -1 -1 -1 -1
+     22 0  -1 -1 17 -1 0  0 12 -1 -1 -1 -1 0  0 -1 -1 -1 -1 -1 -1 -1 -1
+     6  -1 0  -1 10 -1 -1 -1 24 -1 0 -1 -1 -1 0  0 -1 -1 -1 -1 -1 -1 -1
+     2  -1 -1 0  20 -1 -1 -1 25 0 -1 -1 -1 -1 -1 0  0 -1 -1 -1 -1 -1 -1
+     23 -1 -1 -1 3  -1 -1 -1 0 -1 9  11 -1 -1 -1 -1 0  0 -1 -1 -1 -1 -1
+     24 -1 23 1  17 -1 3  -1 10 -1 -1 -1 -1 -1 -1 -1 0  0 -1 -1 -1 -1
+     25 -1 -1 -1 8  -1 -1 -1 7  18 -1 -1 0 -1 -1 -1 -1 -1 0  0 -1 -1 -1
+     13 24 -1 -1 0 -1 8  -1 6  -1 -1 -1 -1 -1 -1 -1 -1 0  0 -1 -1 -1
+     7  20 -1 16 22 10 -1 -1 23 -1 -1 -1 -1 -1 -1 -1 -1 -1 -1 0  0 -1
+     11 -1 -1 -1 19 -1 -1 -1 13 -1 3  17 -1 -1 -1 -1 -1 -1 -1 -1 0  0
+     25 -1 8  -1 23 18 -1 14 9  -1 -1 -1 -1 -1 -1 -1 -1 -1 -1 -1 0  0
+     3  -1 -1 -1 16 -1 -1 2  25 5  -1 -1 1  -1 -1 -1 -1 -1 -1 -1 -1 0",
+    "40 -1 -1 -1 22 -1 49 23 43 -1 -1 -1 1  0 -1 -1 -1 -1 -1 -1 -1 -1
+     50 1  -1 -1 48 35 -1 -1 13 -1 30 -1 -1 0  0 -1 -1 -1 -1 -1 -1 -1
+     39 50 -1 -1 4  -1 2  -1 -1 -1 -1 49 -1 -1 0  0 -1 -1 -1 -1 -1 -1
+     33 -1 -1 38 37 -1 -1 4  1  -1 -1 -1 -1 -1 -1 0  0 -1 -1 -1 -1 -1
+     45 -1 -1 -1 0  22 -1 -1 20 42 -1 -1 -1 -1 -1 -1 0  0 -1 -1 -1 -1
+     51 -1 -1 48 35 -1 -1 -1 44 -1 18 -1 -1 -1 -1 -1 0  0 -1 -1 -1 -1
+     47 11 -1 -1 -1 17 -1 -1 51 -1 -1 -1 0 -1 -1 -1 -1 -1 0  0 -1 -1
+     5  -1 25 -1 6  -1 45 -1 13 40 -1 -1 -1 -1 -1 -1 -1 -1 0  0 -1 -1
+     33 -1 -1 34 24 -1 -1 -1 23 -1 -1 46 -1 -1 -1 -1 -1 -1 -1 0  0 -1
+     1  -1 27 -1 1  -1 -1 -1 38 -1 44 -1 -1 -1 -1 -1 -1 -1 -1 0  0 -1
+     -1 18 -1 -1 23 -1 -1 8  0  35 -1 -1 -1 -1 -1 -1 -1 -1 -1 -1 0  0
+     49 -1 17 -1 30 -1 -1 -1 34 -1 -1 19 1  -1 -1 -1 -1 -1 -1 -1 -1 0",
+    "57 -1 -1 -1 50 -1 11 -1 50 -1 79 -1 1  0 -1 -1 -1 -1 -1 -1 -1 -1
+     3  -1 28 -1 0  -1 -1 -1 55 7  -1 -1 -1 0  0 -1 -1 -1 -1 -1 -1 -1
+     30 -1 -1 -1 24 37 -1 -1 56 14 -1 -1 -1 -1 0  0 -1 -1 -1 -1 -1 -1
+     62 53 -1 -1 53 -1 -1 3  35 -1 -1 -1 -1 -1 -1 0  0 -1 -1 -1 -1 -1
+     40 -1 -1 20 66 -1 -1 22 28 -1 -1 -1 -1 -1 -1 0  0 -1 -1 -1 -1 -1
+     0  -1 -1 -1 8  -1 42 -1 50 -1 -1 8  -1 -1 -1 -1 -1 0  0 -1 -1 -1
+     69 79 79 -1 -1 -1 56 -1 52 -1 -1 -1 0 -1 -1 -1 -1 -1 0  0 -1 -1
+     65 -1 -1 -1 38 57 -1 -1 72 -1 27 -1 -1 -1 -1 -1 -1 -1 -1 0 0 -1 -1 -1
+     64 -1 -1 -1 14 52 -1 -1 30 -1 -1 32 -1 -1 -1 -1 -1 -1 -1 -1 0 0 -1 -1
+     -1 45 -1 70 0 -1 -1 -1 77 9 -1 -1 -1 -1 -1 -1 -1 -1 -1 -1 0 0 -1
+     2 56 -1 57 35 -1 -1 -1 -1 -1 12 -1 -1 -1 -1 -1 -1 -1 -1 -1 -1 -1 0 0
+     24 -1 61 -1 60 -1 -1 27 51 -1 -1 16 1 -1 -1 -1 -1 -1 -1 -1 -1 -1 -1 -1 0",
+];
+
+const SIZES: [u16; 3] = [27, 54, 81];
+
+/// Kb 20, m 4, z 27, 54 and 81: the tables as they are printed.
+pub fn five_sixths() -> Draft {
+    let tables = FIVE_SIXTHS.map(|text| printed(text).iter().map(|row| entries(row)).collect());
+    Draft::new(20, 4, SIZES.into_iter().zip(tables).collect())
+}
+
+/// Kb 12, m 12, z 27, 54 and 81: the first 12 columns as they are printed, and the staircase whose
+/// outer shift is 1 and whose middle 0 stands in row 6, as the 13th column shows.
+pub fn half() -> Draft {
+    let tables = HALF.map(|text| {
+        let left: Rows = printed(text)
+            .iter()
+            .map(|row| entries(&row[..12]))
+            .collect();
+        with_staircase(&left, 1, 6)
+    });
+    Draft::new(12, 12, SIZES.into_iter().zip(tables).collect())
+}
+
+/// A record with nothing but zeros left of its staircases, whose outer shift is 1 where z allows it
+/// and whose middle 0 stands in row 1. The numbers need not be ones that a record may have.
+#[cfg(test)]
+pub fn plain(kb: u16, m: u16, sizes: &[u16]) -> Draft {
+    let left = vec![vec![0; usize::from(kb)]; usize::from(m)];
+    let table = |&z: &u16| (z, with_staircase(&left, u8::from(z > 1), 1));
+    Draft::new(kb, m, sizes.iter().map(table).collect())
+}
+
+/// The numbers of each line.
+fn printed(text: &str) -> Vec<Vec<i16>> {
+    let number = |word: &str| word.parse().expect("the tables hold numbers");
+    text.lines()
+        .map(|line| line.split_whitespace().map(number).collect())
+        .collect()
+}
+
+/// The octets of a row: what is no octet is the -1 of an empty entry.
+fn entries(row: &[i16]) -> Vec<u8> {
+    row.iter()
+        .map(|&number| u8::try_from(number).unwrap_or(EMPTY))
+        .collect()
+}
+
+#[cfg(test)]
+mod tests {
+    use super::{five_sixths, half, printed, FIVE_SIXTHS, HALF, TOY};
+    use crate::draft::{with_staircase, Draft, EMPTY};
+
+    /// The numbers of a row that are no -1, from a column on.
+    fn filled_from(row: &[i16], column: usize) -> Vec<i16> {
+        row[column..]
+            .iter()
+            .copied()
+            .filter(|&number| number != -1)
+            .collect()
+    }
+
+    #[test]
+    fn the_toy_is_made_of_its_parts() {
+        // Document 01: kb 1, m 3, one z of 2.
+        let left = [vec![0], vec![1], vec![EMPTY]];
+        let toy = Draft::new(1, 3, vec![(2, with_staircase(&left, 1, 1))]);
+        assert_eq!(toy.octets(), TOY);
+    }
+
+    #[test]
+    fn rate_5_6_has_all_its_numbers() {
+        for text in FIVE_SIXTHS {
+            assert_eq!(printed(text).len(), 4);
+            assert!(printed(text).iter().all(|row| row.len() == 24));
+        }
+        assert_eq!(five_sixths().octets().len(), 18 + 3 * 4 * 24);
+    }
+
+    #[test]
+    fn rate_1_2_has_lost_and_doubled_empty_entries_only() {
+        for text in HALF {
+            let rows = printed(text);
+            assert_eq!(rows.len(), 12);
+            assert!(rows.iter().all(|row| (22..=25).contains(&row.len())));
+            // The 13th column and the steps, as a staircase has them, whatever was lost between.
+            assert_eq!(filled_from(&rows[0], 12), [1, 0]);
+            assert_eq!(filled_from(&rows[6], 12), [0, 0, 0]);
+            assert_eq!(filled_from(&rows[11], 12), [1, 0]);
+            for row in [1, 2, 3, 4, 5, 7, 8, 9, 10] {
+                assert_eq!(filled_from(&rows[row], 12), [0, 0]);
+            }
+            assert_eq!([rows[0][12], rows[6][12], rows[11][12]], [1, 0, 1]);
+        }
+        assert_eq!(half().octets().len(), 18 + 3 * 12 * 24);
+    }
+}

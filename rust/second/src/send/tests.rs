@@ -1,0 +1,206 @@
+//! Sending: the worked numbers, each refusal, and what each step adds.
+
+use super::send;
+use crate::checksum::with_checksum;
+use crate::numbers::{
+    Number, BLOCK_LENGTH, FEW_PLACES, MANY_BLOCKS, OUTPUT, PARAMETER, RECORD, STAIRCASE,
+};
+use crate::octets::{packed, unpacked};
+use crate::parity::{check, encode};
+use crate::random::Random;
+use crate::samples::{five_sixths, half, plain, TOY};
+use crate::transfer::Asked;
+
+fn asked(layers: u64, order: u64, g: u64) -> Asked {
+    Asked { layers, order, g }
+}
+
+/// Sends with room enough.
+fn sent(record: &[u8], block: &[u8], asked: Asked) -> Result<Vec<u8>, Number> {
+    let mut output = vec![0; 65_536];
+    let count = send(record, block, asked, &mut output)?;
+    output.truncate(count);
+    Ok(output)
+}
+
+fn octets(count: usize, random: &mut Random) -> Vec<u8> {
+    (0..count).map(|_| random.octet()).collect()
+}
+
+#[test]
+fn the_toy_sends_octet_01() {
+    // Document 01, P10.
+    let expected = [
+        0x00, 0x00, 0x00, 0x7b, 0xb7, 0x00, 0x7b, 0xb7, 0x7b, 0x00, 0xcc, 0x00, 0xcc, 0xcc, 0xb7,
+        0xcc,
+    ];
+    let bits = sent(&TOY, &[0x01], asked(1, 2, 128)).unwrap();
+    assert_eq!(bits.len(), 128);
+    assert_eq!(packed(&bits), expected);
+    // "The same with G 130: the same 128 bits and two zeros."
+    let longer = sent(&TOY, &[0x01], asked(1, 2, 130)).unwrap();
+    assert_eq!(longer, [&bits[..], &[0, 0]].concat());
+    // "G 126: E 6, sending does it": the first six bits of each of the sixteen words, and zeros.
+    let shorter = sent(&TOY, &[0x01], asked(1, 2, 126)).unwrap();
+    let cut: Vec<u8> = bits.chunks(8).flat_map(|word| word[..6].to_vec()).collect();
+    assert_eq!(shorter, [cut, vec![0; 30]].concat());
+    // "G 30: both answer 10. G 129: 8."
+    assert_eq!(sent(&TOY, &[0x01], asked(1, 2, 30)), Err(FEW_PLACES));
+    assert_eq!(sent(&TOY, &[0x01], asked(1, 2, 129)), Err(PARAMETER));
+}
+
+#[test]
+fn the_toy_sends_13_octets_and_not_14() {
+    // Document 01: "13 octets: B 128, C 64, done with room enough. 14 octets: C 68, answer 9."
+    let bits = sent(&TOY, &[0xff; 13], asked(1, 2, 512)).unwrap();
+    let word = with_checksum(&[1; 104]);
+    for (block, pair) in bits.chunks(8).zip(word.chunks(2)) {
+        let mut coded = [0; 8];
+        assert_eq!(encode(&TOY, 2, pair, &mut coded), Ok(8));
+        assert_eq!(block, coded);
+    }
+    assert_eq!(sent(&TOY, &[0xff; 14], asked(1, 2, 512)), Err(MANY_BLOCKS));
+}
+
+#[test]
+fn filler_is_not_sent() {
+    // Kb 1, z 3, one octet: the last block has 2 bits and one filler, so 11 of its 12 places.
+    let record = plain(1, 3, &[3]).octets();
+    let bits = sent(&record, &[0xa5], asked(1, 2, 11 * 12)).unwrap();
+    let word = with_checksum(&unpacked(&[0xa5]));
+    for (r, block) in bits.chunks(12).enumerate() {
+        let mut own = word[3 * r..(3 * r + 3).min(32)].to_vec();
+        own.resize(3, 2);
+        let mut coded = [0; 12];
+        assert_eq!(encode(&record, 3, &own, &mut coded), Ok(12));
+        let kept: Vec<u8> = coded.into_iter().filter(|&place| place != 2).collect();
+        assert_eq!(block[..kept.len()], kept);
+        assert_eq!(block[kept.len()..], kept[..12 - kept.len()]);
+    }
+}
+
+#[test]
+fn blocks_of_different_lengths_follow_one_another() {
+    // The longest block with rate 1/2: 17 code blocks, of which three carry one bit more.
+    let record = half().octets();
+    let mut random = Random::new(1);
+    let block = octets(2048, &mut random);
+    let word = with_checksum(&unpacked(&block));
+    // E = 4 · floor(16,384 / 17) = 3,852; N is 1,938 or 1,937.
+    let bits = sent(&record, &block, asked(2, 2, 65_536)).unwrap();
+    assert_eq!(bits[17 * 3852..], [0; 52]);
+    let mut carried = Vec::new();
+    for (r, coded) in bits[..17 * 3852].chunks(3852).enumerate() {
+        let own = if r < 3 { 966 } else { 965 };
+        carried.extend_from_slice(&coded[..own]);
+        let filled = [&coded[..own], &vec![0; 972 - own], &coded[own..own + 972]].concat();
+        assert_eq!(check(&record, 81, &filled), Ok(true));
+        let period = own + 972;
+        assert_eq!(coded[period..], coded[..3852 - period]);
+    }
+    assert_eq!(carried, word);
+}
+
+#[test]
+fn every_table_is_used() {
+    let record = five_sixths().octets();
+    let mut random = Random::new(2);
+    // 64, 131 and 199 octets are 536, 1,072 and 1,616 bits of 540, 1,080 and 1,620.
+    for (count, z, own) in [(64, 27, 536), (131, 54, 1072), (199, 81, 1616)] {
+        let block = octets(count, &mut random);
+        let bits = sent(&record, &block, asked(1, 6, 24 * 162)).unwrap();
+        let zeros = vec![0; 20 * z - own];
+        let word = [&bits[..own], &zeros, &bits[own..own + 4 * z]].concat();
+        assert_eq!(check(&record, z as u64, &word), Ok(true));
+        assert_eq!(bits[..own], with_checksum(&unpacked(&block)));
+    }
+}
+
+#[test]
+fn the_blocks_own_bits_decide_its_stretch() {
+    // Two transport blocks that differ in one bit differ in the stretch of that bit, and in those
+    // of the checksum.
+    let left = sent(&TOY, &[0x00, 0x00], asked(1, 2, 160)).unwrap();
+    let right = sent(&TOY, &[0x00, 0x80], asked(1, 2, 160)).unwrap();
+    let differing: Vec<usize> = (0..20)
+        .filter(|r| left[8 * r..8 * r + 8] != right[8 * r..8 * r + 8])
+        .collect();
+    assert_eq!(differing[0], 4);
+    assert!(differing[1..].iter().all(|&r| r >= 8));
+}
+
+#[test]
+fn a_block_has_1_to_2048_octets() {
+    let record = half().octets();
+    let room = asked(1, 2, 65_536);
+    for count in [0, 2049, 4096] {
+        assert_eq!(sent(&record, &vec![0; count], room), Err(BLOCK_LENGTH));
+    }
+    for count in [1, 2048] {
+        assert!(sent(&record, &vec![0; count], room).is_ok());
+    }
+}
+
+#[test]
+fn layers_order_and_bits_are_those_of_step_5() {
+    for (layers, order, g) in [
+        (0, 2, 128),
+        (5, 2, 160),
+        (u64::MAX, 2, 128),
+        (1, 0, 128),
+        (1, 1, 128),
+        (1, 3, 192),
+        (1, 8, 128),
+        (1, u64::MAX, 128),
+        (1, 2, 65_538),
+        (1, 2, u64::MAX),
+        (1, 4, 130),
+        (2, 6, 126),
+    ] {
+        assert_eq!(
+            sent(&TOY, &[0x01], asked(layers, order, g)),
+            Err(PARAMETER),
+            "{layers} {order} {g}"
+        );
+    }
+    for (layers, order) in [(1, 2), (4, 2), (1, 6), (4, 6), (3, 4)] {
+        let g = layers * order * 16;
+        assert!(sent(&TOY, &[0x01], asked(layers, order, g)).is_ok());
+        assert_eq!(
+            sent(&TOY, &[0x01], asked(layers, order, g - layers * order)),
+            Err(FEW_PLACES)
+        );
+    }
+    assert_eq!(sent(&TOY, &[0x01], asked(1, 2, 0)), Err(FEW_PLACES));
+}
+
+#[test]
+fn the_output_has_room_for_g_bits() {
+    for length in [0, 1, 126, 127] {
+        let mut output = vec![7; length];
+        let number = send(&TOY, &[0x01], asked(1, 2, 128), &mut output);
+        assert_eq!(number, Err(OUTPUT));
+        assert_eq!(output, vec![7; length]);
+    }
+    let mut output = vec![7; 140];
+    assert_eq!(send(&TOY, &[0x01], asked(1, 2, 130), &mut output), Ok(130));
+    assert_eq!(output[128..], [0, 0, 7, 7, 7, 7, 7, 7, 7, 7, 7, 7]);
+}
+
+#[test]
+fn the_lowest_number_is_answered() {
+    let mut not_well_formed = TOY;
+    not_well_formed[10] = 2;
+    let mut no_staircase = TOY;
+    no_staircase[12] = 1;
+    // Too many octets, and no layer; too many blocks; too few places; no output.
+    let send = |record: &[u8], count: usize, asked| send(record, &vec![0; count], asked, &mut []);
+    assert_eq!(send(&not_well_formed, 0, asked(0, 2, 2)), Err(RECORD));
+    assert_eq!(send(&no_staircase, 0, asked(0, 2, 2)), Err(STAIRCASE));
+    assert_eq!(send(&TOY, 0, asked(0, 2, 2)), Err(BLOCK_LENGTH));
+    assert_eq!(send(&TOY, 2049, asked(0, 2, 2)), Err(BLOCK_LENGTH));
+    assert_eq!(send(&TOY, 14, asked(0, 2, 2)), Err(PARAMETER));
+    assert_eq!(send(&TOY, 14, asked(1, 2, 2)), Err(MANY_BLOCKS));
+    assert_eq!(send(&TOY, 13, asked(1, 2, 2)), Err(FEW_PLACES));
+    assert_eq!(send(&TOY, 13, asked(1, 2, 128)), Err(OUTPUT));
+}

@@ -1,0 +1,72 @@
+//! What sending and receiving have in common: numbers 5 to 10, and the six steps of document 01.
+
+use crate::allocation::Allocation;
+use crate::checksum::with_checksum;
+use crate::numbers::Number;
+use crate::octets::unpacked;
+use crate::parity::{Code, FILLER};
+use crate::plan::{block_octets, cut, Plan};
+use crate::rate::matched;
+use crate::record::{profile, Profile};
+
+/// N_L, Q_m and G as they are asked for: any numbers.
+#[derive(Clone, Copy, Debug, PartialEq, Eq)]
+pub struct Asked {
+    pub layers: u64,
+    pub order: u64,
+    pub g: u64,
+}
+
+/// A profile, a block length and an allocation that go together.
+#[derive(Debug)]
+pub struct Transfer {
+    pub profile: Profile,
+    pub plan: Plan,
+    /// The octets of the transport block, A/8.
+    pub octets: usize,
+    /// E, the bits of each code block.
+    pub share: usize,
+    /// G, the bits of them all.
+    pub g: usize,
+}
+
+impl Transfer {
+    /// The transfer of a block of A bits, or the lowest of 5 to 10 that applies.
+    pub fn new(record: &[u8], a: u64, asked: Asked) -> Result<Transfer, Number> {
+        let profile = profile(record)?;
+        let octets = block_octets(a)?;
+        let allocation = Allocation::new(asked.layers, asked.order, asked.g)?;
+        let plan = cut(&profile, octets)?;
+        let share = allocation.share(plan.c)?;
+        Ok(Transfer {
+            profile,
+            plan,
+            octets,
+            share,
+            g: allocation.g,
+        })
+    }
+
+    /// The G bits that a transport block is sent as, or 15. The block has the transfer's length.
+    pub fn sent(&self, block: &[u8]) -> Result<Vec<u8>, Number> {
+        // Step 1.
+        let bits = with_checksum(&unpacked(block));
+        let code = Code::new(&self.profile, self.plan.z);
+        let mut rest = &bits[..];
+        let mut sent = Vec::new();
+        for r in 0..self.plan.c {
+            // Step 2: "blocks carry ... bits in order".
+            let (own, after) = rest.split_at(self.plan.own_bits(r));
+            rest = after;
+            // Step 3: "Places past a block's own bits, at its end, are filler."
+            let mut places = own.to_vec();
+            places.resize(self.plan.k, FILLER);
+            // Steps 4 and 6.
+            let coded = code.coded(&places)?;
+            sent.extend(matched(&coded, self.share));
+        }
+        // Step 5: "The G − C·E places left at the end hold 0."
+        sent.resize(self.g, 0);
+        Ok(sent)
+    }
+}
