@@ -2,14 +2,14 @@
 use mathlib.Core.Path.{_≡_, refl, sym, ap, ap₂, _∙_}
 use mathlib.Core.Bool.{Bool, true, false, _&&_, _||_}
 use mathlib.Core.List.{List, [], _∷_, _++_, append-assoc, append-nil}
-use Prim.Native.Nat.{ℕ, zero, suc, _+_, _-_, _%_, _≤_, _<_}
+use Prim.Native.Nat.{ℕ, suc, _+_, _-_, _%_, _≤_, _<_}
 use native.Mathlib.Nat.{mod-eq-of-lt, mod-lt}
 use native.Mathlib.Numerals.{add-one}
 use native.Mathlib.Omega.{arith}
 use lib.Dec.{eqb, ltb}
 use lib.ListN.{length, getD, take, drop, set, length-append, length-drop, List·getD-append, drop-of-length-le}
 use lib.Seq.{drop-cons, drop-length, set-at, take-at, take-all, getD-take, getD-drop, getD-append-add, length-take-le}
-use borrow.Author.Tests.{eq-eqb, ne-eqb, eqb-false, lt-ltb, ltb-false}
+use borrow.Author.Tests.{eq-eqb, ne-eqb, eqb-false, lt-ltb}
 use Rattle.coding.proofs.Places.{list-of, written}
 use Rattle.coding.specs.Promises.{unmatchable}
 use Rattle.coding.specs.Matching.{kept, listTo, matched}

@@ -1,8 +1,8 @@
 -- What is known of an accepted profile and its plan where one block is sent. Assumes nothing.
-use mathlib.Core.Path.{_≡_, refl, sym, ap, ap₂, _∙_}
+use mathlib.Core.Path.{_≡_, refl, sym, ap, _∙_}
 use mathlib.Core.Bool.{true}
 use mathlib.Core.List.{List, _++_}
-use Prim.Native.Nat.{ℕ, zero, suc, _+_, _-_, _*_, _≤_, _<_}
+use Prim.Native.Nat.{ℕ, _+_, _-_, _*_, _≤_, _<_}
 use native.Mathlib.Nat.{zero-add, add-mul, le-mul-of-pos-right, mul-comm}
 use native.Mathlib.Omega.{arith}
 use lib.ListN.{length, getD, take, drop, replicate, length-append, length-drop, length-replicate, getD-replicate, length-set, set, List·getD-append}
@@ -12,7 +12,7 @@ use Rattle.bits.proofs.Answers.{when-done}
 use Rattle.bits.proofs.Ranges.{below-or, last-or}
 use Rattle.profile.specs.Record.{kb, m, t, z, table}
 use Rattle.profile.specs.Plan.{blockBits, blocks, sizeOf, places}
-use Rattle.profile.specs.Promises.{judged, planNumber}
+use Rattle.profile.specs.Promises.{judged}
 use Rattle.profile.specs.declared.Plan.{Plan}
 use Rattle.profile.proofs.Plans.{Cut, plan-passed, plan-cut}
 use Rattle.profile.proofs.Stairs.{Staircase}

@@ -1,21 +1,19 @@
 -- The code blocks of a transport block, one after the other: their own bits, their parity bits and their shares. Assumes nothing.
-use mathlib.Core.Path.{_≡_, refl, sym, ap, ap₂, _∙_}
-use mathlib.Core.Bool.{Bool, true, false}
-use mathlib.Core.List.{List, _++_}
-use Prim.Native.Nat.{ℕ, zero, suc, _+_, _-_, _*_, _≤_, _<_}
+use mathlib.Core.Path.{_≡_, refl, ap, ap₂, _∙_}
+use mathlib.Core.List.{List}
+use Prim.Native.Nat.{ℕ, suc, _+_, _-_, _≤_, _<_}
 use native.Mathlib.Numerals.{add-one}
 use native.Mathlib.Omega.{arith}
-use lib.ListN.{length, drop}
-use Rattle.bits.specs.Bits.{AreBits}
+use lib.ListN.{length}
 use Rattle.bits.specs.Ranges.{sumTo}
 use Rattle.profile.specs.Record.{kb, m, z, table}
-use Rattle.profile.specs.Plan.{blocks, ownBits, sizeOf, places, filler}
+use Rattle.profile.specs.Plan.{blocks, ownBits, places, filler}
 use Rattle.profile.specs.declared.Plan.{Plan}
 use Rattle.parity.specs.Coded.{hasParity, coded}
 use Rattle.coding.specs.Cutting.{ownStart, own, systematic}
 use Rattle.coding.specs.Blocks.{blockHasParity, codedBlock}
 use Rattle.coding.specs.Allocation.{share}
-use Rattle.coding.specs.Matching.{matched, listTo}
+use Rattle.coding.specs.Matching.{matched}
 use Rattle.coding.specs.Joining.{blockSent}
 use Rattle.coding.specs.steps.Sending.{cutPlaces}
 use Rattle.coding.proofs.Known.{Known}

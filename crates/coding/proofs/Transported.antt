@@ -1,17 +1,14 @@
 -- The transport bits of a block, and a plan that goes with them. Assumes nothing.
 use mathlib.Core.Path.{_≡_, refl, sym, ap, _∙_}
 use mathlib.Core.Bool.{Bool, true, false, not, true≢false}
-use mathlib.Core.List.{List, [], _∷_, _++_}
-use Prim.Native.Nat.{ℕ, zero, suc, _+_, _*_, _≤_, _<_}
-use native.Mathlib.Nat.{zero-add}
+use mathlib.Core.List.{List, [], _++_}
+use Prim.Native.Nat.{ℕ, _+_, _≤_, _<_}
 use native.Mathlib.Omega.{arith}
 use borrow.Author.Tests.{not-false}
 use lib.Dec.{lit<, lit≤}
 use lib.ListN.{length, take, drop, length-append}
 use lib.Seq.{sets, sets-eq, take-at}
 use Rattle.bits.specs.Bits.{AreBits, digits, unpacked}
-use Rattle.bits.specs.Numbers.{answered}
-use Rattle.bits.specs.Ranges.{allTo, anyTo}
 use Rattle.bits.specs.declared.number.Written.{Written}
 use Rattle.bits.proofs.Answers.{applies, passes, when-done, when-refused}
 use Rattle.bits.proofs.Lists.{bits-append}
@@ -20,7 +17,7 @@ use Rattle.bits.proofs.Octets.{length-unpacked, unpacked-bits}
 use Rattle.bits.proofs.Ranges.{all-at, all-of, any-none, none-any}
 use Rattle.checksum.specs.Crc.{attached, checksum, gen24A}
 use Rattle.checksum.specs.steps.Register.{Generator}
-use Rattle.profile.specs.Plan.{blockBits, blocks}
+use Rattle.profile.specs.Plan.{blockBits}
 use Rattle.profile.specs.Promises.{planNumber, Planned}
 use Rattle.profile.specs.declared.Plan.{Plan}
 use Rattle.coding.specs.Transport.{transport}

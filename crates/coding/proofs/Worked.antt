@@ -2,7 +2,6 @@
 use mathlib.Core.Path.{_≡_, refl}
 use mathlib.Core.List.{List, [], _∷_, _++_, map}
 use Prim.Native.Nat.{ℕ}
-use lib.ListN.{length}
 use Rattle.bits.specs.Bits.{digits, readOn, number, unpacked, numberAt}
 use Rattle.bits.specs.Counts.{placesOf, bitsOf}
 use Rattle.bits.specs.Ranges.{sumTo, parityTo, allTo, anyTo, firstTo}

@@ -1,5 +1,5 @@
 -- `coding::rate_match` meets its contract. Assumes nothing.
-use mathlib.Core.Path.{_≡_, sym, _∙_}
+use mathlib.Core.Path.{sym, _∙_}
 use denote.Ref.{now}
 use borrow.Author.Needs.{needs}
 use Rattle.coding.proofs.Answers.{match-passed, match-refused, match-done}

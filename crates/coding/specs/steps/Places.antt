@@ -1,7 +1,7 @@
 -- What the steps of rate matching write, place by place.
 use mathlib.Core.Path.{_≡_}
 use mathlib.Core.List.{List, _++_}
-use Prim.Native.Nat.{ℕ, _+_, _-_, _%_, _≤_, _<_}
+use Prim.Native.Nat.{ℕ, _+_, _%_, _≤_, _<_}
 use lib.ListN.{length, getD, take, drop, set}
 use Rattle.coding.specs.Matching.{kept}
 

@@ -1,8 +1,7 @@
 -- `coding::allocation::share_of` meets its contract. Assumes nothing.
-use mathlib.Core.Path.{_≡_, sym, ap, _∙_}
-use Prim.Native.Nat.{ℕ, _/_, _≤_}
+use mathlib.Core.Path.{ap, _∙_}
+use Prim.Native.Nat.{_/_}
 use native.Mathlib.Nat.{div-le-self, le-trans}
-use native.Mathlib.Omega.{arith}
 use borrow.Author.Needs.{needs}
 use Rattle.bits.specs.declared.count.SymbolPlaces.{SymbolPlaces}
 use Rattle.bits.specs.Counts.{placesOf, bitsOf}

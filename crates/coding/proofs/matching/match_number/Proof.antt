@@ -1,5 +1,5 @@
 -- `coding::matching::match_number` meets its contract: its tests, in their order. Assumes nothing.
-use mathlib.Core.Path.{_≡_, sym, _∙_}
+use mathlib.Core.Path.{sym, _∙_}
 use borrow.Author.Tests.{lt-ltb, le-ltb}
 use borrow.Author.Needs.{needs}
 use Rattle.bits.specs.Numbers.{answered}

@@ -1,7 +1,7 @@
 -- `coding::matching::none_kept` meets its contract. The loop's invariant: a place is kept from i on exactly where one is kept at all.
 -- Assumes nothing.
 use mathlib.Core.Path.{_≡_, refl}
-use Prim.Native.Nat.{ℕ, _-_}
+use Prim.Native.Nat.{_-_}
 use lib.Dec.{eqb}
 use lib.ListN.{length, drop}
 use denote.Ref.{now}

@@ -1,7 +1,7 @@
 -- `coding::matching::put_all_kept` meets its contract. The loop's invariant: the kept places before i are written, at most e of them.
 -- Assumes nothing.
 use mathlib.Core.Path.{_≡_, refl}
-use Prim.Native.Nat.{ℕ, _-_, _≤_}
+use Prim.Native.Nat.{_-_, _≤_}
 use native.Mathlib.Omega.{arith}
 use lib.ListN.{length}
 use denote.Ref.{now}

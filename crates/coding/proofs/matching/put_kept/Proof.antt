@@ -1,5 +1,5 @@
 -- `coding::matching::put_kept` meets its contract. Assumes nothing.
-use mathlib.Core.Path.{_≡_, refl}
+use mathlib.Core.Path.{refl}
 use native.Mathlib.Omega.{arith}
 use borrow.Author.Needs.{needs}
 use Rattle.coding.proofs.matching.put_kept.Statement.{statement}

@@ -1,9 +1,8 @@
 -- `coding::sending::send_blocks` meets its contract. The loop's invariant: the blocks before r stand in front of the output, up to `at`, and
 -- `start` is where block r's own bits begin. Assumes nothing.
 use mathlib.Core.Path.{_≡_, refl, sym, ap, ap₂, _∙_}
-use mathlib.Core.Bool.{true}
 use mathlib.Core.List.{List, _++_}
-use Prim.Native.Nat.{ℕ, _+_, _-_, _*_, _≤_, _<_}
+use Prim.Native.Nat.{ℕ, _+_, _-_, _≤_, _<_}
 use native.Mathlib.Omega.{arith}
 use lib.ListN.{length, take, drop, length-drop}
 use denote.Ref.{now}
@@ -14,14 +13,13 @@ use Rattle.bits.proofs.Ranges.{all-at}
 use Rattle.profile.specs.Plan.{blocks, ownBits}
 use Rattle.coding.specs.Cutting.{ownStart}
 use Rattle.coding.specs.Allocation.{share}
-use Rattle.coding.specs.Matching.{matched}
 use Rattle.coding.specs.Blocks.{blockHasParity}
 use Rattle.coding.specs.Joining.{blockSent, joined}
 use Rattle.coding.specs.steps.Sending.{allHaveParity}
 use Rattle.coding.proofs.Known.{known}
 use Rattle.coding.proofs.Joining.{Joined, joined-none, joined-more, part-rest}
 use Rattle.coding.proofs.Shares.{shares-fit}
-use Rattle.coding.proofs.Sent.{start-none, start-turn, own-fits, own-room, parity-is, coded-is, share-is, length-block, share-fits, share-turn, block-is}
+use Rattle.coding.proofs.Sent.{start-none, start-turn, own-fits, own-room, parity-is, share-is, length-block, share-fits, share-turn, block-is}
 use Rattle.coding.proofs.sending.send_blocks.Statement.{statement}
 use Rattle.coding.proofs.sending.send_blocks.Tie as tie
 
