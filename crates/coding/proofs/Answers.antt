@@ -1,44 +1,24 @@
 -- What the calls answer, by their tests. Assumes nothing.
-use mathlib.Core.Path.{_≡_, refl, sym, _∙_}
-use mathlib.Core.Bool.{Bool, true, false, not}
+use mathlib.Core.Path.{_≡_, sym, _∙_}
+use mathlib.Core.Bool.{Bool, false, not}
 use mathlib.Core.List.{List, [], _∷_, _++_}
-use Prim.Native.Nat.{ℕ, zero, suc, _≤_}
+use Prim.Native.Nat.{ℕ, _≤_}
 use native.Mathlib.Omega.{arith}
 use borrow.Author.Tests.{ltb-false}
 use lib.Dec.{ltb, lit<}
 use lib.ListN.{length, drop}
 use Rattle.bits.specs.Bits.{someOver}
 use Rattle.bits.specs.Numbers.{answered}
-use Rattle.bits.proofs.Answers.{passed, when-done, when-refused}
+use Rattle.bits.proofs.Answers.{passed, first-part, Refusals, last-part, when-done, when-refused}
 use Rattle.profile.specs.Record.{within, wellFormed}
 use Rattle.profile.specs.Staircase.{staircases}
 use Rattle.profile.specs.Plan.{blockBits, blocks}
 use Rattle.coding.specs.Allocation.{misallocated}
 use Rattle.coding.specs.Matching.{matched}
 use Rattle.coding.specs.Joining.{sent}
-use Rattle.coding.specs.Promises.{unmatchable, matchNumber, RateMatched, tooFewPlaces, someWithoutParity, sendNumber, Sent}
+use Rattle.coding.specs.Blocks.{someWithoutParity}
+use Rattle.coding.specs.Promises.{unmatchable, matchNumber, RateMatched, tooFewPlaces, sendNumber, Sent}
 use Rattle.coding.specs.steps.Sending.{takenNumber}
-
--- ---- a list of numbers in two parts
-
-first-part : (xs ys : List (ℕ × Bool)) → (answered xs ≡ 0 → ⊥) → answered (xs ++ ys) ≡ answered xs
-unfolding answered
-first-part [] ys n = absurd (n refl)
-first-part ((k, true) ∷ xs) ys n = refl
-first-part ((k, false) ∷ xs) ys n = first-part xs ys n
-
--- every number of the list is one of a refusal
-Refusals : List (ℕ × Bool) → Type 0
-Refusals [] = Unit
-Refusals ((zero, b) ∷ xs) = ⊥
-Refusals ((suc k, b) ∷ xs) = Refusals xs
-
-last-part : (xs ys : List (ℕ × Bool)) → Refusals xs → answered xs ≡ 0 → answered (xs ++ ys) ≡ answered ys
-unfolding answered Refusals
-last-part [] ys r e = refl
-last-part ((zero, b) ∷ xs) ys r e = absurd r
-last-part ((suc k, true) ∷ xs) ys r e = absurd (omega arith)
-last-part ((suc k, false) ∷ xs) ys r e = last-part xs ys r e
 
 -- ---- rate matching
 
@@ -66,8 +46,8 @@ module _ (coded : List ℕ) (e : ℕ) (out : List ℕ) where
 
 module _ (R block : List ℕ) (nl qm g : ℕ) (out : List ℕ) where
   -- what is refused before a block is coded is refused so
-  pub send-first : (takenNumber R (length block) nl qm g (length out) ≡ 0 → ⊥)
-      → takenNumber R (length block) nl qm g (length out) ≡ sendNumber R block nl qm g (length out)
+  pub send-first : (takenNumber R (length block) nl qm g g (length out) ≡ 0 → ⊥)
+      → takenNumber R (length block) nl qm g g (length out) ≡ sendNumber R block nl qm g (length out)
   unfolding takenNumber sendNumber
   send-first n =
       sym (first-part
@@ -76,7 +56,7 @@ module _ (R block : List ℕ) (nl qm g : ℕ) (out : List ℕ) where
       ((15, someWithoutParity R block) ∷ []) n)
 
   -- and where nothing is, 15 is left
-  pub send-last : takenNumber R (length block) nl qm g (length out) ≡ 0
+  pub send-last : takenNumber R (length block) nl qm g g (length out) ≡ 0
       → sendNumber R block nl qm g (length out) ≡ answered ((15, someWithoutParity R block) ∷ [])
   unfolding takenNumber sendNumber Refusals
   send-last e =

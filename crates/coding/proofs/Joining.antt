@@ -5,8 +5,12 @@ use Prim.Native.Nat.{ℕ, zero, suc, _+_, _-_, _≤_, _<_}
 use native.Mathlib.Numerals.{add-one}
 use native.Mathlib.Omega.{arith}
 use lib.ListN.{length, getD, take, drop, set, replicate, length-append, length-drop, length-replicate, replicate-append-replicate, drop-of-length-le}
-use lib.Seq.{take-all, take-at, drop-at, drop-drop, drop-cons, set-at}
+use lib.Dec.{lit<}
+use lib.Seq.{take-all, take-at, take-add, take-append-seam, drop-at, drop-append-seam, drop-drop, drop-cons, set-at}
+use Rattle.bits.specs.Bits.{AreBits}
 use Rattle.bits.specs.Ranges.{sumTo}
+use Rattle.bits.proofs.Lists.{bits-append}
+use Rattle.bits.proofs.Ranges.{last-or}
 use Rattle.coding.specs.Joining.{joined, padded}
 
 -- ---- a part from a place to the end
@@ -57,6 +61,33 @@ module _ (f : ℕ → List ℕ) where
         size = rw (add-one r) (length-append (joined r f) (f r) ∙ ap₂ (λ (a b : ℕ). a + b) (j .size) l);
         same = same ∙ j .same;
       }
+
+  -- block r stands where those before it end
+  pub joined-part : (n r : ℕ) (rest : List ℕ) → r < n → take (length (f r)) (drop (length (joined r f)) (joined n f ++ rest)) ≡ f r
+  unfolding joined
+  joined-part zero r rest h = absurd (omega arith)
+  joined-part (suc n) r rest h =
+      rw (append-assoc (joined n f) (f n) rest)
+      (last-or r n h
+      (λ l. joined-part n r (f n ++ rest) l)
+      (λ e. rw e (ap (take (length (f n))) (drop-append-seam (joined n f) (f n ++ rest)) ∙ take-append-seam (f n) rest)))
+
+  pub joined-same : (h : ℕ → List ℕ) (n : ℕ) → ((r : ℕ) → r < n → f r ≡ h r) → joined n f ≡ joined n h
+  unfolding joined
+  joined-same h zero e = refl
+  joined-same h (suc n) e = ap₂ (λ (x y : List ℕ). x ++ y) (joined-same h n (λ r l. e r (omega arith))) (e n (omega arith))
+
+  pub joined-bits : (n : ℕ) → ((r : ℕ) → r < n → AreBits (f r)) → AreBits (joined n f)
+  unfolding joined
+  joined-bits zero h k = lit< tt
+  joined-bits (suc n) h k = bits-append (joined n f) (f n) (joined-bits n (λ r l. h r (omega arith))) (h n (omega arith)) k
+
+-- a list cut into parts of so many elements, in order, and joined again
+pub joined-cut : (size : ℕ → ℕ) (s : List ℕ) (n : ℕ) → joined n (λ r. take (size r) (drop (sumTo r size) s)) ≡ take (sumTo n size) s
+unfolding joined sumTo
+joined-cut size s zero = refl
+joined-cut size s (suc n) =
+    ap (λ (l : List ℕ). l ++ take (size n) (drop (sumTo n size) s)) (joined-cut size s n) ∙ sym (take-add (sumTo n size) (size n) s)
 
 -- ---- zeros in what is left
 

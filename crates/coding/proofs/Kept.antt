@@ -14,11 +14,7 @@ use Rattle.coding.proofs.Places.{list-of, written}
 use Rattle.coding.specs.Promises.{unmatchable}
 use Rattle.coding.specs.Matching.{kept, listTo, matched}
 use Rattle.coding.specs.steps.Places.{Repeated, PutKept, Keeping}
-use Rattle.bits.proofs.Ranges.{equal-or, below-or}
-
-pub neither : (p q : Bool) → p || q ≡ false → (p ≡ false) × (q ≡ false)
-neither true q e = absurd (let z : _≡_ {A = ℕ} 0 1 = cc in omega arith)
-neither false q e = (refl, e)
+use Rattle.bits.proofs.Ranges.{equal-or, below-or, neither}
 
 -- a marked place is passed over, any other is kept
 kept-skip : (s : List ℕ) (i : ℕ) → i < length s → getD s i 0 ≡ 2 → kept (drop i s) ≡ kept (drop (i + 1) s)

@@ -6,7 +6,13 @@ pub mod Joining
 pub mod Shares
 pub mod Known
 pub mod Sent
+pub mod Heard
+pub mod Gathered
 pub mod Taken
 pub mod Transported
+pub mod Received
+pub mod Rebuilt
+pub mod Asked
+pub mod RoundTrip
 pub mod Agreement
 pub mod Worked

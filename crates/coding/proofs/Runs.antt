@@ -35,7 +35,7 @@ all-marked [] h = refl
 all-marked (x ∷ l) h = rw (eq-eqb x 2 (h 0 (omega arith))) (all-marked l (λ k m. h (suc k) (omega arith)))
 
 module _ (s : List ℕ) (own places : ℕ) (f : Filled s own places) where
-  kept-is : kept s ≡ take own s ++ drop places s
+  pub kept-is : kept s ≡ take own s ++ drop places s
   kept-is =
       let n = places - own in
       let order : own ≤ places = f .order in
@@ -54,19 +54,19 @@ module _ (s : List ℕ) (own places : ℕ) (f : Filled s own places) where
       (ap kept (sym (take-append-drop n (drop own s))) ∙ kept-append (take n (drop own s)) (drop n (drop own s))
       ∙ ap₂ (λ (x y : List ℕ). x ++ y) middle (ap kept cut ∙ last))
 
-  kept-length : length (kept s) ≡ own + (length s - places)
+  pub kept-length : length (kept s) ≡ own + (length s - places)
   kept-length =
       let order : own ≤ places = f .order in
       let within : places ≤ length s = f .within in
       ap length kept-is ∙ length-append (take own s) (drop places s)
       ∙ omega (arith, length-take-le own s (omega arith), length-drop places s)
 
-  kept-first : (k : ℕ) → k < own → getD (kept s) k 0 ≡ getD s k 0
+  pub kept-first : (k : ℕ) → k < own → getD (kept s) k 0 ≡ getD s k 0
   kept-first k h =
       let l : length (take own s) ≡ own = length-take-le own s (omega (arith, f .order, f .within)) in
       ap (λ (x : List ℕ). getD x k 0) kept-is ∙ List·getD-append (take own s) (drop places s) 0 k (omega arith) ∙ getD-take own s k 0 h
 
-  kept-second : (k : ℕ) → getD (kept s) (own + k) 0 ≡ getD s (places + k) 0
+  pub kept-second : (k : ℕ) → getD (kept s) (own + k) 0 ≡ getD s (places + k) 0
   kept-second k =
       let l : length (take own s) ≡ own = length-take-le own s (omega (arith, f .order, f .within)) in
       ap₂ (λ (x : List ℕ) (j : ℕ). getD x (j + k) 0) kept-is (sym l) ∙ getD-append-add (take own s) (drop places s) k 0 ∙ getD-drop places s k 0

@@ -9,11 +9,10 @@ use borrow.Author.Tests.{eqb-true, leb-true, ltb-false, not-false}
 use lib.Dec.{eqb, leb, ltb}
 use Rattle.bits.specs.Counts.{placesOf, bitsOf}
 use Rattle.bits.specs.Ranges.{sumTo}
-use Rattle.bits.proofs.Ranges.{both}
+use Rattle.bits.proofs.Ranges.{both, neither}
 use Rattle.profile.specs.Record.{within}
 use Rattle.coding.specs.Allocation.{misallocated, symbolPlaces, share}
 use Rattle.coding.specs.steps.Sending.{Allocated}
-use Rattle.coding.proofs.Kept.{neither}
 
 pub sum-mono : (f : ℕ → ℕ) (a b : ℕ) → a ≤ b → sumTo a f ≤ sumTo b f
 unfolding sumTo

@@ -1,4 +1,4 @@
--- What is known of a block that no number before 15 refuses, and how that is found. Assumes nothing.
+-- What is known of a block that no number before a block is coded refuses, and how that is found. Assumes nothing.
 use mathlib.Core.Path.{_≡_, refl, sym, _∙_}
 use mathlib.Core.Bool.{Bool, true, false, not}
 use mathlib.Core.List.{List, [], _∷_}
@@ -7,39 +7,15 @@ use native.Mathlib.Omega.{arith}
 use borrow.Author.Tests.{ltb-false}
 use lib.Dec.{ltb, lit<}
 use Rattle.bits.specs.Numbers.{answered}
-use Rattle.bits.proofs.Answers.{applies, passes, passed}
+use Rattle.bits.proofs.Answers.{applies, passes, passed, none-left}
 use Rattle.profile.specs.Record.{within, wellFormed}
 use Rattle.profile.specs.Staircase.{staircases}
 use Rattle.profile.specs.Plan.{blockBits, blocks}
 use Rattle.profile.specs.Promises.{judged, planNumber}
-use Rattle.profile.proofs.Answers.{plan-judged}
+use Rattle.profile.proofs.Answers.{judged-first, judged-passed, plan-judged}
 use Rattle.coding.specs.Allocation.{misallocated}
 use Rattle.coding.specs.Promises.{tooFewPlaces}
 use Rattle.coding.specs.steps.Sending.{takenNumber}
-
-pub none-left : answered [] ≡ 0
-unfolding answered
-none-left = refl
-
--- ---- a profile is judged before everything else
-
-module _ (R : List ℕ) (rest : List (ℕ × Bool)) where
-  pub judged-first : (judged R ≡ 0 → ⊥) → answered ((5, not (wellFormed R)) ∷ (6, not (staircases R)) ∷ rest) ≡ judged R
-  unfolding judged answered
-  judged-first n = by-tests (wellFormed R) (staircases R) refl refl
-    where
-      by-tests : (a b : Bool) → wellFormed R ≡ a → staircases R ≡ b
-          → answered ((5, not (wellFormed R)) ∷ (6, not (staircases R)) ∷ rest) ≡ judged R
-      by-tests false b p q = rw p
-      by-tests true false p q = rw (p, q)
-      by-tests true true p q = absurd (n (rw (p, q)))
-
-  pub judged-passed : judged R ≡ 0 → answered ((5, not (wellFormed R)) ∷ (6, not (staircases R)) ∷ rest) ≡ answered rest
-  unfolding judged
-  judged-passed e =
-      let five = passed 5 ((6, not (staircases R)) ∷ []) (not (wellFormed R)) (lit< tt) e in
-      let six = passed 6 [] (not (staircases R)) (lit< tt) (five .1) in
-      passes 5 ((6, not (staircases R)) ∷ rest) (five .0) ∙ passes 6 rest (six .0)
 
 -- ---- 7 and 9 of a plan
 
@@ -59,7 +35,7 @@ unfolding answered
 nine-is true n = (refl, refl)
 nine-is false n = absurd (n refl)
 
-module _ (R : List ℕ) (octets nl qm g room : ℕ) where
+module _ (R : List ℕ) (octets nl qm g need room : ℕ) where
   seven : Bool
   seven = not (within 1 2048 octets)
 
@@ -69,12 +45,12 @@ module _ (R : List ℕ) (octets nl qm g room : ℕ) where
   ten : Bool
   ten = tooFewPlaces R octets nl qm g
 
-  taken-judged : judged R ≡ 0 → takenNumber R octets nl qm g room ≡ answered ((7, seven) ∷ (8, misallocated nl qm g) ∷ (9, nine) ∷ (10, ten) ∷ (11, ltb room g) ∷ [])
+  taken-judged : judged R ≡ 0 → takenNumber R octets nl qm g need room ≡ answered ((7, seven) ∷ (8, misallocated nl qm g) ∷ (9, nine) ∷ (10, ten) ∷ (11, ltb room need) ∷ [])
   unfolding takenNumber seven nine ten
   taken-judged e = judged-passed R _ e
 
   -- each way out, by its test
-  pub taken-first : (judged R ≡ 0 → ⊥) → judged R ≡ takenNumber R octets nl qm g room
+  pub taken-first : (judged R ≡ 0 → ⊥) → judged R ≡ takenNumber R octets nl qm g need room
   unfolding takenNumber
   taken-first n = sym (judged-first R _ n)
 
@@ -83,7 +59,7 @@ module _ (R : List ℕ) (octets nl qm g room : ℕ) where
     unfolding seven nine
     plan-is = plan ∙ plan-judged R octets e
 
-    pub taken-seven : p ≡ 7 → 7 ≡ takenNumber R octets nl qm g room
+    pub taken-seven : p ≡ 7 → 7 ≡ takenNumber R octets nl qm g need room
     taken-seven q = sym (taken-judged e ∙ applies 7 _ (seven-is seven nine (sym plan-is ∙ q)))
 
     module _ (n : p ≡ 7 → ⊥) where
@@ -93,46 +69,46 @@ module _ (R : List ℕ) (octets nl qm g room : ℕ) where
       plan-nine : p ≡ answered ((9, nine) ∷ [])
       plan-nine = plan-is ∙ passes 7 _ past-seven
 
-      from-eight : takenNumber R octets nl qm g room ≡ answered ((8, misallocated nl qm g) ∷ (9, nine) ∷ (10, ten) ∷ (11, ltb room g) ∷ [])
+      from-eight : takenNumber R octets nl qm g need room ≡ answered ((8, misallocated nl qm g) ∷ (9, nine) ∷ (10, ten) ∷ (11, ltb room need) ∷ [])
       from-eight = taken-judged e ∙ passes 7 _ past-seven
 
-      pub taken-eight : misallocated nl qm g ≡ true → 8 ≡ takenNumber R octets nl qm g room
+      pub taken-eight : misallocated nl qm g ≡ true → 8 ≡ takenNumber R octets nl qm g need room
       taken-eight t = sym (from-eight ∙ applies 8 _ t)
 
       module _ (right : misallocated nl qm g ≡ false) where
-        pub taken-nine : (p ≡ 0 → ⊥) → p ≡ takenNumber R octets nl qm g room
+        pub taken-nine : (p ≡ 0 → ⊥) → p ≡ takenNumber R octets nl qm g need room
         taken-nine q =
             let is = nine-is nine (λ z. q (plan-nine ∙ z)) in
             plan-nine ∙ is .1 ∙ sym (from-eight ∙ passes 8 _ right ∙ applies 9 _ (is .0))
 
         module _ (done : p ≡ 0) where
-          from-ten : takenNumber R octets nl qm g room ≡ answered ((10, ten) ∷ (11, ltb room g) ∷ [])
+          from-ten : takenNumber R octets nl qm g need room ≡ answered ((10, ten) ∷ (11, ltb room need) ∷ [])
           from-ten = from-eight ∙ passes 8 _ right ∙ passes 9 _ (passed 9 [] nine (lit< tt) (sym plan-nine ∙ done) .0)
 
-          pub taken-ten : tooFewPlaces R octets nl qm g ≡ true → 10 ≡ takenNumber R octets nl qm g room
+          pub taken-ten : tooFewPlaces R octets nl qm g ≡ true → 10 ≡ takenNumber R octets nl qm g need room
           unfolding ten
           taken-ten t = sym (from-ten ∙ applies 10 _ t)
 
           module _ (enough : tooFewPlaces R octets nl qm g ≡ false) where
-            pub taken-eleven : ltb room g ≡ true → 11 ≡ takenNumber R octets nl qm g room
+            pub taken-eleven : ltb room need ≡ true → 11 ≡ takenNumber R octets nl qm g need room
             unfolding ten
             taken-eleven t = sym (from-ten ∙ passes 10 _ enough ∙ applies 11 _ t)
 
-            pub taken-done : ltb room g ≡ false → 0 ≡ takenNumber R octets nl qm g room
+            pub taken-done : ltb room need ≡ false → 0 ≡ takenNumber R octets nl qm g need room
             unfolding ten
-            taken-done t = sym (from-ten ∙ passes 10 ((11, ltb room g) ∷ []) enough ∙ passes 11 [] t ∙ none-left)
+            taken-done t = sym (from-ten ∙ passes 10 ((11, ltb room need) ∷ []) enough ∙ passes 11 [] t ∙ none-left)
 
 -- ---- what such a block has passed
 
-module _ (R : List ℕ) (octets nl qm g room : ℕ) where
-  pub taken-passed : takenNumber R octets nl qm g room ≡ 0 → (planNumber R octets ≡ 0) × (misallocated nl qm g ≡ false) × (g ≤ room)
+module _ (R : List ℕ) (octets nl qm g need room : ℕ) where
+  pub taken-passed : takenNumber R octets nl qm g need room ≡ 0 → (planNumber R octets ≡ 0) × (misallocated nl qm g ≡ false) × (need ≤ room)
   unfolding takenNumber planNumber
   taken-passed e =
       let wf = not (wellFormed R) in
       let st = not (staircases R) in
       let a = not (within 1 2048 octets) in
       let b = ltb 64 (blocks R (blockBits octets)) in
-      let l11 : List (ℕ × Bool) = (11, ltb room g) ∷ [] in
+      let l11 : List (ℕ × Bool) = (11, ltb room need) ∷ [] in
       let l10 : List (ℕ × Bool) = (10, tooFewPlaces R octets nl qm g) ∷ l11 in
       let l9 : List (ℕ × Bool) = (9, b) ∷ l10 in
       let l8 : List (ℕ × Bool) = (8, misallocated nl qm g) ∷ l9 in
@@ -143,7 +119,7 @@ module _ (R : List ℕ) (octets nl qm g room : ℕ) where
       let p8 = passed 8 l9 (misallocated nl qm g) (lit< tt) (p7 .1) in
       let p9 = passed 9 l10 b (lit< tt) (p8 .1) in
       let p10 = passed 10 l11 (tooFewPlaces R octets nl qm g) (lit< tt) (p9 .1) in
-      let p11 = passed 11 [] (ltb room g) (lit< tt) (p10 .1) in
+      let p11 = passed 11 [] (ltb room need) (lit< tt) (p10 .1) in
       let n9 : List (ℕ × Bool) = (9, b) ∷ [] in
       let n7 : List (ℕ × Bool) = (7, a) ∷ n9 in
-      (passes 5 ((6, st) ∷ n7) (p5 .0) ∙ passes 6 n7 (p6 .0) ∙ passes 7 n9 (p7 .0) ∙ passes 9 [] (p9 .0) ∙ none-left, p8 .0, ltb-false room g (p11 .0))
+      (passes 5 ((6, st) ∷ n7) (p5 .0) ∙ passes 6 n7 (p6 .0) ∙ passes 7 n9 (p7 .0) ∙ passes 9 [] (p9 .0) ∙ none-left, p8 .0, ltb-false room need (p11 .0))

@@ -10,7 +10,7 @@ use lib.ListN.{length, take, drop, length-append}
 use lib.Seq.{sets, sets-eq, take-at}
 use Rattle.bits.specs.Bits.{AreBits, digits, unpacked}
 use Rattle.bits.specs.declared.number.Written.{Written}
-use Rattle.bits.proofs.Answers.{applies, passes, when-done, when-refused}
+use Rattle.bits.proofs.Answers.{applies, passes, none-left, when-done, when-refused}
 use Rattle.bits.proofs.Lists.{bits-append}
 use Rattle.bits.proofs.Digits.{length-digits, digits-bits}
 use Rattle.bits.proofs.Octets.{length-unpacked, unpacked-bits}
@@ -21,12 +21,11 @@ use Rattle.profile.specs.Plan.{blockBits}
 use Rattle.profile.specs.Promises.{planNumber, Planned}
 use Rattle.profile.specs.declared.Plan.{Plan}
 use Rattle.coding.specs.Transport.{transport}
-use Rattle.coding.specs.Blocks.{blockHasParity}
 use Rattle.coding.specs.Joining.{sent}
-use Rattle.coding.specs.Promises.{someWithoutParity, sendNumber, Sent}
+use Rattle.coding.specs.Blocks.{blockHasParity, someWithoutParity}
+use Rattle.coding.specs.Promises.{sendNumber, Sent}
 use Rattle.coding.specs.steps.Sending.{Ready, takenNumber, allHaveParity, bitsSent, BitsSent}
 use Rattle.coding.proofs.Answers.{send-last}
-use Rattle.coding.proofs.Taken.{none-left}
 
 pub generator-24 : Generator 24 gen24A
 generator-24 = record { some = lit< tt; most = lit≤ tt; below = lit< tt }
@@ -66,8 +65,15 @@ module _ (R block : List ℕ) where
       by-value false q =
           absurd (true≢false (sym (all-of _ (blockHasParity R (transport block)) (λ r h. not-false _ (none-any _ _ q r h))) ∙ e))
 
+  pub parity-is-all : not (someWithoutParity R block) ≡ allHaveParity R (transport block)
+  parity-is-all = by-value (allHaveParity R (transport block)) refl
+    where
+      by-value : (b : Bool) → allHaveParity R (transport block) ≡ b → not (someWithoutParity R block) ≡ b
+      by-value true q = ap not (parity-all q)
+      by-value false q = ap not (parity-some q)
+
   -- what was sent of the transport bits is what is promised of the block
-  pub sent-whole : (nl qm g : ℕ) (out : List ℕ) (w : Written) (out' : List ℕ) → takenNumber R (length block) nl qm g (length out) ≡ 0
+  pub sent-whole : (nl qm g : ℕ) (out : List ℕ) (w : Written) (out' : List ℕ) → takenNumber R (length block) nl qm g g (length out) ≡ 0
       → BitsSent R (transport block) nl qm g out w out' → Sent R block nl qm g out w out'
   unfolding sent bitsSent
   sent-whole nl qm g out w out' e s = by-value (allHaveParity R (transport block)) refl

@@ -1,11 +1,13 @@
 -- Step 4 of document 01: the coded blocks. R is the profile's record, bits the transport bits, r the block's index.
-use mathlib.Core.Bool.{Bool}
+use mathlib.Core.Bool.{Bool, not}
 use mathlib.Core.List.{List}
 use Prim.Native.Nat.{ℕ, _+_, _-_, _*_}
 use lib.ListN.{length}
+use Rattle.bits.specs.Ranges.{anyTo}
 use Rattle.parity.specs.Coded.{hasParity, coded}
 use Rattle.profile.specs.Record.{kb, m, z, table}
-use Rattle.profile.specs.Plan.{sizeOf, filler}
+use Rattle.profile.specs.Plan.{blocks, sizeOf, filler}
+use Rattle.coding.specs.Transport.{transport}
 use Rattle.coding.specs.Cutting.{systematic}
 
 unfoldable pub blockHasParity : List ℕ → List ℕ → ℕ → Bool
@@ -14,6 +16,10 @@ blockHasParity R bits r =
 
 unfoldable pub codedBlock : List ℕ → List ℕ → ℕ → List ℕ
 codedBlock R bits r = coded (table R (sizeOf R (length bits))) (kb R) (m R) (z R (sizeOf R (length bits))) (systematic R bits r)
+
+-- 15: "some block has no parity bits with which it checks (step 4)"
+unfoldable pub someWithoutParity : List ℕ → List ℕ → Bool
+someWithoutParity R block = anyTo (blocks R (length (transport block))) (λ r. not (blockHasParity R (transport block) r))
 
 -- "Let N be a block's coded places less its filler": of block r, where there are b transport bits
 unfoldable pub sendable : List ℕ → ℕ → ℕ → ℕ

@@ -4,5 +4,6 @@ pub mod Blocks
 pub mod Allocation
 pub mod Matching
 pub mod Joining
+pub mod Receiving
 pub mod Promises
 pub mod steps

@@ -1,22 +1,21 @@
--- What the public calls of sending promise, for all octets, lengths and numbers.
+-- What the public calls promise, for all octets, lengths and numbers.
 use mathlib.Core.Path.{_≡_}
 use mathlib.Core.Bool.{Bool, not, _&&_, _||_}
 use mathlib.Core.List.{List, [], _∷_, _++_}
-use Prim.Native.Nat.{ℕ}
+use Prim.Native.Nat.{ℕ, _/_, _%_}
 use lib.Dec.{eqb, ltb}
 use lib.ListN.{length, drop}
 use Rattle.bits.specs.Bits.{someOver}
 use Rattle.bits.specs.Numbers.{answered, whenDone}
-use Rattle.bits.specs.Ranges.{anyTo}
 use Rattle.bits.specs.declared.number.Written.{Written}
 use Rattle.profile.specs.Record.{within, wellFormed}
 use Rattle.profile.specs.Staircase.{staircases}
 use Rattle.profile.specs.Plan.{blockBits, blocks}
-use Rattle.coding.specs.Transport.{transport}
-use Rattle.coding.specs.Blocks.{blockHasParity}
+use Rattle.coding.specs.Blocks.{someWithoutParity}
 use Rattle.coding.specs.Allocation.{misallocated, symbolPlaces}
 use Rattle.coding.specs.Matching.{kept, matched}
 use Rattle.coding.specs.Joining.{sent}
+use Rattle.coding.specs.Receiving.{someSentAs, received, someWithoutRoom}
 
 -- ---- rate-matching one coded block
 
@@ -38,10 +37,6 @@ pub record RateMatched (coded : List ℕ) (e : ℕ) (out : List ℕ) (r : Writte
 unfoldable pub tooFewPlaces : List ℕ → ℕ → ℕ → ℕ → ℕ → Bool
 tooFewPlaces R octets nl qm g = ltb (symbolPlaces nl qm g .0) (blocks R (blockBits octets))
 
--- 15: "some block has no parity bits with which it checks (step 4)"
-unfoldable pub someWithoutParity : List ℕ → List ℕ → Bool
-someWithoutParity R block = anyTo (blocks R (length (transport block))) (λ r. not (blockHasParity R (transport block) r))
-
 unfoldable pub sendNumber : List ℕ → List ℕ → ℕ → ℕ → ℕ → ℕ → ℕ
 sendNumber R block nl qm g room =
     answered
@@ -59,3 +54,29 @@ pub record Sent (R block : List ℕ) (nl qm g : ℕ) (out : List ℕ) (r : Writt
   pub number : r .number ≡ sendNumber R block nl qm g (length out)
   pub count : r .count ≡ whenDone (sendNumber R block nl qm g (length out)) g 0
   pub output : out' ≡ whenDone (sendNumber R block nl qm g (length out)) (sent R block nl qm g ++ drop g out) out
+
+-- ---- receiving; a is A, the bits of the block that is asked for
+
+-- 7, "receiving: A not 8 times a number from 1 to 2,048"
+unfoldable pub notOctets : ℕ → Bool
+notOctets a = not (eqb (a % 8) 0 && within 1 2048 (a / 8))
+
+unfoldable pub receiveNumber : List ℕ → ℕ → ℕ → ℕ → List ℕ → ℕ → ℕ
+receiveNumber R a nl qm bits room =
+    answered
+    ((5, not (wellFormed R))
+    ∷ (6, not (staircases R))
+    ∷ (7, notOctets a)
+    ∷ (8, misallocated nl qm (length bits))
+    ∷ (9, ltb 64 (blocks R (blockBits (a / 8))))
+    ∷ (10, tooFewPlaces R (a / 8) nl qm (length bits))
+    ∷ (11, ltb room (a / 8))
+    ∷ (12, someOver 1 bits)
+    ∷ (13, someWithoutRoom R (a / 8) nl qm (length bits))
+    ∷ (14, not (someSentAs R (a / 8) nl qm bits))
+    ∷ [])
+
+pub record Received (R : List ℕ) (a nl qm : ℕ) (bits out : List ℕ) (r : Written) (out' : List ℕ) : Type 0 where
+  pub number : r .number ≡ receiveNumber R a nl qm bits (length out)
+  pub count : r .count ≡ whenDone (receiveNumber R a nl qm bits (length out)) (a / 8) 0
+  pub output : out' ≡ whenDone (receiveNumber R a nl qm bits (length out)) (received R (a / 8) nl qm bits ++ drop (a / 8) out) out

@@ -4,13 +4,15 @@ use profile::Plan;
 ghost use mathlib.Core.Path.{_≡_};
 ghost use mathlib.Core.Bool.{true};
 ghost use mathlib.Core.List.{_++_};
-ghost use Prim.Native.Nat.{_+_, _*_, _≤_};
-ghost use lib.ListN.{length, drop};
+ghost use Prim.Native.Nat.{_+_, _-_, _*_, _≤_};
+ghost use lib.ListN.{length, take, drop};
+ghost use Rattle.bits.specs.Bits.{AreBits};
 ghost use Rattle.parity.specs.Coded.{hasParity, coded};
 ghost use Rattle.parity.specs.steps.Grouped.{Solution};
 ghost use Rattle.profile.specs.Record.{kb, m, table};
 ghost use Rattle.coding.specs.Matching.{matched};
 ghost use Rattle.coding.specs.steps.Sending.{Ready, Marked, cutPlaces};
+ghost use Rattle.coding.specs.steps.Receiving.{Planning, copiesAgree, blockSentAs};
 
 // Marks the places from `from` to `to` as filler.
 fn mark(word: &mut [u8], from: usize, to: usize)
@@ -78,4 +80,49 @@ pub fn send_block(
     code(profile, plan, bits, start, own, word);
     let places = plan.places;
     matching::match_filled(word, own, places, e, out);
+}
+
+// Whether every place past the first n holds what stands n places before it. It looks at every place, with no early way out, so that the loop is straight.
+fn copies_agree(s: &[u8], n: usize) -> bool
+    requires { ⌜ n ≤ length (now s) ⌝ }
+    ensures { λ r. ⌜ r ≡ copiesAgree n (now (s .entry)) ⌝ }
+{
+    let mut agree = true;
+    let mut k = n;
+    while k < s.len() {
+        agree = agree & (s[k] == s[k - n]);
+        k += 1;
+    }
+    agree
+}
+
+// Lays the first bits of a stretch into the word: own bits, filler, and the parity bits behind them.
+fn gather(s: &[u8], own: usize, places: usize, word: &mut [u8])
+    requires { ⌜ (own ≤ places) × (places ≤ length (now word)) × (own + (length (now word) - places) ≤ length (now s)) ⌝ }
+    ensures { λ _. ⌜ now (word .exit) ≡ cutPlaces (now (s .entry)) 0 own places ++ take (length (now (word .entry)) - places) (drop own (now (s .entry))) ⌝ }
+{
+    matching::lay(s, 0, word, 0, own);
+    mark(word, own, places);
+    let rest = word.len() - places;
+    matching::lay(s, own, word, places, rest);
+}
+
+// Whether a stretch is what the block whose own bits stand at its beginning is sent as: equal copies, and all parity rows. `word` is room
+// for one coded block.
+pub fn is_sent_as(profile: &[u8], plan: Plan, s: &[u8], own: usize, word: &mut [u8]) -> bool
+    requires { ⌜ Planning (now profile) plan × (own ≤ plan .places) × (length (now word) ≡ (kb (now profile) + m (now profile)) * plan .z) × (own + (length (now word) - plan .places) ≤ length (now s)) × AreBits (now s) ⌝ }
+    ensures { λ r. ⌜ r ≡ blockSentAs (table (now (profile .entry)) (plan .size)) (kb (now (profile .entry))) (m (now (profile .entry))) (plan .z) (cutPlaces (now (s .entry)) 0 own (plan .places)) (now (s .entry)) ⌝ }
+{
+    let places = plan.places;
+    let size = plan.size;
+    let z = plan.z;
+    let n = own + (word.len() - places);
+    if !copies_agree(s, n) {
+        return false;
+    }
+    gather(s, own, places, word);
+    let kb = profile::inner::kb(profile);
+    let m = profile::inner::m(profile);
+    let table = profile::inner::table(profile, size);
+    parity::inner::checks(table, kb, m, z, word)
 }

@@ -19,6 +19,12 @@ Requests, and what is answered behind the number:
   check RECORD Z BITS                1 if the bits are a word that checks, else 0
   rate E PLACES OUTLEN               the bits that are sent of a coded block
   send RECORD BLOCK NL QM G OUTLEN   the bits that are sent of a block
+  recv RECORD A NL QM BITS OUTLEN    the block that was sent as these bits
+  lookup SHELVES TENANT PROFILE      which shelf has the record, where it starts and its length
+  hsend SHELVES TENANT PROFILE ..    as send, with the record that the tenant is given
+  hrecv SHELVES TENANT PROFILE ..    as recv, with the record that the tenant is given
+
+SHELVES are two words, PRIVATE and PUBLIC; behind PROFILE the words of send and recv behind RECORD.
 
 docs/REQUESTS.md describes requests, their words and the answers.
 ",

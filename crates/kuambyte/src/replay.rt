@@ -12,9 +12,9 @@ ghost use Rattle.requests.specs.Room.{Roomy};
 
 // The octets of the longest line, its newline not counted.
 const LINE_ROOM: usize = 600_000;
-// The octets of the longest record, of the longest word of bits, and of the longest output that is
-// lent to a call.
-const RECORD_ROOM: usize = 70_000;
+// The octets of two shelves or records of the longest kind, of the longest word of bits, and of the
+// longest output that is lent to a call.
+const RECORDS_ROOM: usize = 140_000;
 
 const BITS_ROOM: usize = 140_000;
 
@@ -37,14 +37,14 @@ pub struct Reading {
 
 pub fn replay() {
     let mut line = [0u8; LINE_ROOM];
-    let mut record = [0u8; RECORD_ROOM];
+    let mut records = [0u8; RECORDS_ROOM];
     let mut bits = [0u8; BITS_ROOM];
     let mut lent = [0u8; LENT_ROOM];
     let mut chunk = io::large_buffer();
     let mut out = [0u8; OUT_ROOM];
     read_all(
         &mut line,
-        &mut record,
+        &mut records,
         &mut bits,
         &mut lent,
         &mut chunk,
@@ -56,7 +56,7 @@ pub fn replay() {
 // from a number that no run uses up.
 fn read_all(
     line: &mut [u8],
-    record: &mut [u8],
+    records: &mut [u8],
     bits: &mut [u8],
     lent: &mut [u8],
     chunk: &mut [u8],
@@ -72,7 +72,7 @@ fn read_all(
     };
     let mut turns = u64::MAX;
     while turns > 0 {
-        reading = read_some(line, record, bits, lent, chunk, out, reading);
+        reading = read_some(line, records, bits, lent, chunk, out, reading);
         if reading.done {
             return;
         }
@@ -83,7 +83,7 @@ fn read_all(
 // Reads once, and answers each line that has ended.
 fn read_some(
     line: &mut [u8],
-    record: &mut [u8],
+    records: &mut [u8],
     bits: &mut [u8],
     lent: &mut [u8],
     chunk: &mut [u8],
@@ -95,7 +95,7 @@ fn read_some(
 {
     let got = libc::read(STDIN_FILENO, chunk);
     let n = received(got, chunk);
-    let after = answer_lines(&chunk[0..n], line, record, bits, lent, out, reading);
+    let after = answer_lines(&chunk[0..n], line, records, bits, lent, out, reading);
     finish(got, out, after)
 }
 
@@ -132,7 +132,7 @@ fn finish(got: isize, out: &[u8], reading: Reading) -> Reading
 fn answer_lines(
     chunk: &[u8],
     line: &mut [u8],
-    record: &mut [u8],
+    records: &mut [u8],
     bits: &mut [u8],
     lent: &mut [u8],
     out: &mut [u8],
@@ -148,7 +148,7 @@ fn answer_lines(
         if end == chunk.len() {
             return reading;
         }
-        reading = answer_line(line, record, bits, lent, out, reading);
+        reading = answer_line(line, records, bits, lent, out, reading);
         if reading.done {
             return reading;
         }
@@ -174,7 +174,7 @@ fn hold(piece: &[u8], line: &mut [u8], mut reading: Reading) -> Reading
 // Answers the line that is held, and begins the next.
 fn answer_line(
     line: &[u8],
-    record: &mut [u8],
+    records: &mut [u8],
     bits: &mut [u8],
     lent: &mut [u8],
     out: &mut [u8],
@@ -188,7 +188,7 @@ fn answer_line(
         return ready;
     }
     let held = ready.held;
-    let answer = lines::answer(&line[0..held], ready.long, record, bits, lent);
+    let answer = lines::answer(&line[0..held], ready.long, records, bits, lent);
     Reading {
         held: 0,
         long: false,

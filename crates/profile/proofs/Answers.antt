@@ -21,25 +21,33 @@ module _ (R : List ℕ) where
   unfolding wellFormed shapeRight
   formed-is = refl
 
-  -- a record that is refused has that number for every block
-  pub plan-unjudged : (octets : ℕ) → (judged R ≡ 0 → ⊥) → planNumber R octets ≡ judged R
-  unfolding judged planNumber answered
-  plan-unjudged octets n = by-tests (wellFormed R) (staircases R) refl refl
-    where
-      by-tests : (a b : Bool) → wellFormed R ≡ a → staircases R ≡ b → planNumber R octets ≡ judged R
-      by-tests false b p q = rw p
-      by-tests true false p q = rw (p, q)
-      by-tests true true p q = absurd (n (rw (p, q)))
+  -- a profile is judged before everything else: 5 and 6 come first, and where they are passed the rest is left
+  module _ (rest : List (ℕ × Bool)) where
+    pub judged-first : (judged R ≡ 0 → ⊥) → answered ((5, not (wellFormed R)) ∷ (6, not (staircases R)) ∷ rest) ≡ judged R
+    unfolding judged answered
+    judged-first n = by-tests (wellFormed R) (staircases R) refl refl
+      where
+        by-tests : (a b : Bool) → wellFormed R ≡ a → staircases R ≡ b
+            → answered ((5, not (wellFormed R)) ∷ (6, not (staircases R)) ∷ rest) ≡ judged R
+        by-tests false b p q = rw p
+        by-tests true false p q = rw (p, q)
+        by-tests true true p q = absurd (n (rw (p, q)))
 
-  -- and with one that is accepted 7 and 9 are left
+    pub judged-passed : judged R ≡ 0 → answered ((5, not (wellFormed R)) ∷ (6, not (staircases R)) ∷ rest) ≡ answered rest
+    unfolding judged
+    judged-passed e =
+        let five = passed 5 ((6, not (staircases R)) ∷ []) (not (wellFormed R)) (lit< tt) e in
+        let six = passed 6 [] (not (staircases R)) (lit< tt) (five .1) in
+        passes 5 ((6, not (staircases R)) ∷ rest) (five .0) ∙ passes 6 rest (six .0)
+
+  pub plan-unjudged : (octets : ℕ) → (judged R ≡ 0 → ⊥) → planNumber R octets ≡ judged R
+  unfolding planNumber
+  plan-unjudged octets n = judged-first _ n
+
   pub plan-judged : (octets : ℕ) → judged R ≡ 0
       → planNumber R octets ≡ answered ((7, not (within 1 2048 octets)) ∷ (9, ltb 64 (blocks R (blockBits octets))) ∷ [])
-  unfolding judged planNumber
-  plan-judged octets e =
-      let rest : List (ℕ × Bool) = (7, not (within 1 2048 octets)) ∷ (9, ltb 64 (blocks R (blockBits octets))) ∷ [] in
-      let five = passed 5 ((6, not (staircases R)) ∷ []) (not (wellFormed R)) (lit< tt) e in
-      let six = passed 6 [] (not (staircases R)) (lit< tt) (five .1) in
-      passes 5 ((6, not (staircases R)) ∷ rest) (five .0) ∙ passes 6 rest (six .0)
+  unfolding planNumber
+  plan-judged octets e = judged-passed _ e
 
   module _ (octets : ℕ) (accepted : judged R ≡ 0) where
     pub plan-seven : within 1 2048 octets ≡ false → 7 ≡ planNumber R octets

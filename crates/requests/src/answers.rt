@@ -30,6 +30,13 @@ pub enum Answer {
         number: u32,
         checks: bool,
     },
+    // The stretch of the private shelf where `own`, else of the public one.
+    Record {
+        number: u32,
+        own: bool,
+        start: usize,
+        count: usize,
+    },
     // So many octets of what was lent.
     Written {
         shown: Shown,
@@ -59,6 +66,12 @@ pub fn put(answer: Answer, lent: &[u8], out: &mut [u8], at: usize) -> usize
         Answer::Sum { number, value } => sum(number, value, out, at),
         Answer::Plan(cut) => plan(cut, out, at),
         Answer::Verdict { number, checks } => verdict(number, checks, out, at),
+        Answer::Record {
+            number,
+            own,
+            start,
+            count,
+        } => stretch(number, own, start, count, out, at),
         Answer::Written {
             shown,
             number,
@@ -127,6 +140,27 @@ fn verdict(number: u32, checks: bool, out: &mut [u8], at: usize) -> usize
     let space = numbers::decimal(number as u64, out, at);
     let end = numbers::next_decimal(checks as u64, out, space);
     octets::put_one(b'\n', out, end)
+}
+
+fn stretch(number: u32, own: bool, start: usize, count: usize, out: &mut [u8], at: usize) -> usize
+    requires { ⌜ at + 128 ≤ length (now out) ⌝ }
+    ensures { λ r. ⌜ r ≤ length (now (out .entry)) ⌝ }
+{
+    let space = numbers::decimal(number as u64, out, at);
+    let name = shelf(own, out, space);
+    let from = numbers::next_decimal(start as u64, out, name);
+    let end = numbers::next_decimal(count as u64, out, from);
+    octets::put_one(b'\n', out, end)
+}
+
+fn shelf(own: bool, out: &mut [u8], at: usize) -> usize
+    requires { ⌜ at + 16 ≤ length (now out) ⌝ }
+    ensures { λ r. ⌜ r ≤ at + 8 ⌝ }
+{
+    if own {
+        return octets::put(b" private", out, at);
+    }
+    octets::put(b" public", out, at)
 }
 
 fn written(shown: Shown, number: u32, part: &[u8], out: &mut [u8], at: usize) -> usize

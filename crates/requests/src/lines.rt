@@ -9,7 +9,7 @@ ghost use lib.ListN.{length};
 pub fn answer(
     line: &[u8],
     long: bool,
-    record: &mut [u8],
+    records: &mut [u8],
     bits: &mut [u8],
     lent: &mut [u8],
 ) -> Answer {
@@ -23,7 +23,7 @@ pub fn answer(
     if n == 0 {
         return Answer::Nothing;
     }
-    names::answer(&line[0..n], record, bits, lent)
+    names::answer(&line[0..n], records, bits, lent)
 }
 
 fn is_comment(line: &[u8]) -> bool {

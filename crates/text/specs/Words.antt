@@ -1,5 +1,5 @@
 -- What the words of a request keep to inside: their octets lie within the stores that are lent.
-use Prim.Native.Nat.{ℕ, _≤_}
+use Prim.Native.Nat.{ℕ, _-_, _/_, _≤_}
 use mathlib.Core.List.{List}
 use lib.ListN.{length}
 use Rattle.text.specs.declared.values.Parsed.{Parsed}
@@ -11,8 +11,9 @@ abbrev pub valueOf : Parsed → ℕ
 valueOf (Value n) = n
 valueOf (Bad why) = 0
 
--- what the words gave lies within the stores, and what is lent within the room for it
-pub record Held (given : Given) («record» bits : List ℕ) (room : ℕ) : Type 0 where
-  pub in-record : given .record ≤ length «record»
+-- what the words gave lies within the halves of `records` and within the other store, and what is lent within the room for it
+pub record Held (given : Given) (records bits : List ℕ) (room : ℕ) : Type 0 where
+  pub in-first : given .record ≤ length records / 2
+  pub in-second : given .public ≤ length records - length records / 2
   pub in-bits : given .bits ≤ length bits
   pub in-room : given .lent ≤ room

@@ -11,8 +11,10 @@ ghost use Rattle.text.specs.Words.{Held, valueOf};
 
 // What the words of a request gave.
 pub struct Given {
-    // Octets that RECORD fills of the record's store.
+    // Octets that RECORD or PRIVATE fills of the first half of the store of records.
     pub record: usize,
+    // Octets that PUBLIC fills of the second half.
+    pub public: usize,
     // Octets that BLOCK, BITS or PLACES fills of the store of bits.
     pub bits: usize,
     // Octets that OUTLEN lends.
@@ -26,10 +28,11 @@ pub struct Given {
 impl Given {
     // The words are counted before any is looked at.
     fn start(form: &[u8], request: &[u8]) -> Self
-        ensures { λ r. ⌜ (r .record ≡ 0) × (r .bits ≡ 0) × (r .lent ≡ 0) ⌝ }
+        ensures { λ r. ⌜ (r .record ≡ 0) × (r .public ≡ 0) × (r .bits ≡ 0) × (r .lent ≡ 0) ⌝ }
     {
         Self {
             record: 0,
+            public: 0,
             bits: 0,
             lent: 0,
             bad: words::count(form) != words::count(request),
@@ -38,15 +41,23 @@ impl Given {
     }
 
     fn with_record(self, word: Parsed) -> Self
-        ensures { λ r. ⌜ (r .record ≡ valueOf word) × (r .bits ≡ self .bits) × (r .lent ≡ self .lent) ⌝ }
+        ensures { λ r. ⌜ (r .record ≡ valueOf word) × (r .public ≡ self .public) × (r .bits ≡ self .bits) × (r .lent ≡ self .lent) ⌝ }
     {
         let mut given = self.with_number(word);
         given.record = values::value_of(word);
         given
     }
 
+    fn with_public(self, word: Parsed) -> Self
+        ensures { λ r. ⌜ (r .record ≡ self .record) × (r .public ≡ valueOf word) × (r .bits ≡ self .bits) × (r .lent ≡ self .lent) ⌝ }
+    {
+        let mut given = self.with_number(word);
+        given.public = values::value_of(word);
+        given
+    }
+
     fn with_bits(self, word: Parsed) -> Self
-        ensures { λ r. ⌜ (r .record ≡ self .record) × (r .bits ≡ valueOf word) × (r .lent ≡ self .lent) ⌝ }
+        ensures { λ r. ⌜ (r .record ≡ self .record) × (r .public ≡ self .public) × (r .bits ≡ valueOf word) × (r .lent ≡ self .lent) ⌝ }
     {
         let mut given = self.with_number(word);
         given.bits = values::value_of(word);
@@ -54,7 +65,7 @@ impl Given {
     }
 
     fn with_lent(self, word: Parsed) -> Self
-        ensures { λ r. ⌜ (r .record ≡ self .record) × (r .bits ≡ self .bits) × (r .lent ≡ valueOf word) ⌝ }
+        ensures { λ r. ⌜ (r .record ≡ self .record) × (r .public ≡ self .public) × (r .bits ≡ self .bits) × (r .lent ≡ valueOf word) ⌝ }
     {
         let mut given = self.with_number(word);
         given.lent = values::value_of(word);
@@ -63,12 +74,13 @@ impl Given {
 
     // Only the fault of a number is kept here; the number is read again where it is asked for.
     fn with_number(self, word: Parsed) -> Self
-        ensures { λ r. ⌜ (r .record ≡ self .record) × (r .bits ≡ self .bits) × (r .lent ≡ self .lent) ⌝ }
+        ensures { λ r. ⌜ (r .record ≡ self .record) × (r .public ≡ self .public) × (r .bits ≡ self .bits) × (r .lent ≡ self .lent) ⌝ }
     {
         match word {
             Parsed::Value(_) => self,
             Parsed::Bad(why) => Self {
                 record: self.record,
+                public: self.public,
                 bits: self.bits,
                 lent: self.lent,
                 bad: true,
@@ -93,8 +105,8 @@ pub fn named<'a>(name: &'a [u8], forms: &'a [u8]) -> &'a [u8] {
 }
 
 // Reads the words of a request from left to right, up to the first that does not keep to the form.
-pub fn read(form: &[u8], request: &[u8], record: &mut [u8], bits: &mut [u8], room: usize) -> Given
-    ensures { λ r. ⌜ Held r (now («record» .entry)) (now (bits .entry)) room ⌝ }
+pub fn read(form: &[u8], request: &[u8], records: &mut [u8], bits: &mut [u8], room: usize) -> Given
+    ensures { λ r. ⌜ Held r (now (records .entry)) (now (bits .entry)) room ⌝ }
 {
     let n = words::count(form);
     let mut given = Given::start(form, request);
@@ -104,7 +116,7 @@ pub fn read(form: &[u8], request: &[u8], record: &mut [u8], bits: &mut [u8], roo
             return given;
         }
         let name = words::word(form, k);
-        given = read_word(name, words::word(request, k), record, bits, room, given);
+        given = read_word(name, words::word(request, k), records, bits, room, given);
         k += 1;
     }
     given
@@ -114,16 +126,20 @@ pub fn read(form: &[u8], request: &[u8], record: &mut [u8], bits: &mut [u8], roo
 fn read_word(
     name: &[u8],
     word: &[u8],
-    record: &mut [u8],
+    records: &mut [u8],
     bits: &mut [u8],
     room: usize,
     given: Given,
 ) -> Given
-    requires { ⌜ Held given (now «record») (now bits) room ⌝ }
-    ensures { λ r. ⌜ Held r (now («record» .entry)) (now (bits .entry)) room ⌝ }
+    requires { ⌜ Held given (now records) (now bits) room ⌝ }
+    ensures { λ r. ⌜ Held r (now (records .entry)) (now (bits .entry)) room ⌝ }
 {
-    if same(name, b"RECORD") {
-        return given.with_record(values::octets(word, record));
+    let half = records.len() / 2;
+    if is_first(name) {
+        return given.with_record(values::octets(word, &mut records[0..half]));
+    }
+    if same(name, b"PUBLIC") {
+        return given.with_public(values::octets(word, &mut records[half..]));
     }
     if same(name, b"OUTLEN") {
         return given.with_lent(values::outlen(word, room));
@@ -134,7 +150,25 @@ fn read_word(
     if is_bits(name) {
         return given.with_bits(values::bits(word, bits));
     }
+    if is_short(name) {
+        return given.with_number(values::short(word));
+    }
     given.with_number(values::number(word))
+}
+
+// A request has one of these at most.
+fn is_first(name: &[u8]) -> bool {
+    if same(name, b"RECORD") {
+        return true;
+    }
+    same(name, b"PRIVATE")
+}
+
+fn is_short(name: &[u8]) -> bool {
+    if same(name, b"TENANT") {
+        return true;
+    }
+    same(name, b"PROFILE")
 }
 
 fn is_bits(name: &[u8]) -> bool {
@@ -147,4 +181,9 @@ fn is_bits(name: &[u8]) -> bool {
 // The number that word k of a request holds, once the request has been read.
 pub fn number(request: &[u8], k: usize) -> usize {
     values::value_of(values::number(words::word(request, k)))
+}
+
+// The same for a number of two octets.
+pub fn short(request: &[u8], k: usize) -> u16 {
+    values::short_of(number(request, k))
 }

@@ -68,6 +68,29 @@ pub fn number(word: &[u8]) -> Parsed {
     Parsed::Value(value)
 }
 
+// A number of two octets.
+pub fn short(word: &[u8]) -> Parsed {
+    match number(word) {
+        Parsed::Bad(why) => Parsed::Bad(why),
+        Parsed::Value(n) => two_octets(n),
+    }
+}
+
+fn two_octets(n: usize) -> Parsed {
+    if n > 65535 {
+        return Parsed::Bad(Fault::Number);
+    }
+    Parsed::Value(n)
+}
+
+// A number that has two octets, as such; 0 for a larger one, which is not read so far.
+pub fn short_of(n: usize) -> u16 {
+    if n > 65535 {
+        return 0;
+    }
+    n as u16
+}
+
 // The length of an output, for which there is so much room.
 pub fn outlen(word: &[u8], room: usize) -> Parsed
     ensures { λ r. ⌜ valueOf r ≤ room ⌝ }

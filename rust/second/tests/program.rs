@@ -14,22 +14,12 @@ fn second(arguments: &[&str], input: Stdio) -> Output {
 
 #[test]
 fn chosen_requests_are_answered_as_recorded() {
-    let folder = Path::new(env!("CARGO_MANIFEST_DIR"));
-    let program = folder.join("../../crates/kuambyte");
-    answers_as_recorded(&program.join("stdin"), &program.join("stdout"));
-    // Requests for parts that the program does not have yet.
-    for name in ["recv", "shelf"] {
-        let chosen = folder.join("tests/chosen").join(name);
-        answers_as_recorded(
-            &chosen.with_extension("txt"),
-            &chosen.with_extension("answers"),
-        );
-    }
-}
-
-fn answers_as_recorded(requests: &Path, recorded: &Path) {
-    let output = second(&["replay"], File::open(requests).unwrap().into());
-    let recorded = fs::read_to_string(recorded).unwrap();
+    let program = Path::new(env!("CARGO_MANIFEST_DIR")).join("../../crates/kuambyte");
+    let output = second(
+        &["replay"],
+        File::open(program.join("stdin")).unwrap().into(),
+    );
+    let recorded = fs::read_to_string(program.join("stdout")).unwrap();
     assert_eq!(String::from_utf8(output.stdout).unwrap(), recorded);
     assert!(output.status.success());
 }

@@ -22,7 +22,7 @@ plan-accepted-requires c κs =
     let a = st .args in
     let R = now (a .profile) in
     let block = now (a .block) in
-    let ok = taken-passed R (length block) (a .nl) (a .qm) (a .g .0) (length (now (a .out))) (st .pre .0) in
+    let ok = taken-passed R (length block) (a .nl) (a .qm) (a .g .0) (a .g .0) (length (now (a .out))) (st .pre .0) in
     plan-passed R (length block) (ok .0) .0
 
 attach-requires : tie.Need-attach-requires
@@ -31,7 +31,7 @@ attach-requires c κs =
     let a = st .args in
     let R = now (a .profile) in
     let block = now (a .block) in
-    let ok = taken-passed R (length block) (a .nl) (a .qm) (a .g .0) (length (now (a .out))) (st .pre .0) in
+    let ok = taken-passed R (length block) (a .nl) (a .qm) (a .g .0) (a .g .0) (length (now (a .out))) (st .pre .0) in
     let most = plan-passed R (length block) (ok .0) .2 in
     (generator-24, omega (arith, most, st .pre .1))
 
@@ -42,7 +42,7 @@ slice-reshare-prefix-send-bits c =
     let a = st .args in
     let R = now (a .profile) in
     let block = now (a .block) in
-    let ok = taken-passed R (length block) (a .nl) (a .qm) (a .g .0) (length (now (a .out))) (st .pre .0) in
+    let ok = taken-passed R (length block) (a .nl) (a .qm) (a .g .0) (a .g .0) (length (now (a .out))) (st .pre .0) in
     let plan = c .before .before .before .before .plan-accepted in
     let attach = c .before .before .attach in
     let count : plan .result .bits ≡ blockBits (length block) = plan .ensures .bits ∙ when-done _ _ _ (ok .0) in
@@ -56,7 +56,7 @@ slice-aggregate-send-bits c =
     let a = st .args in
     let R = now (a .profile) in
     let block = now (a .block) in
-    let ok = taken-passed R (length block) (a .nl) (a .qm) (a .g .0) (length (now (a .out))) (st .pre .0) in
+    let ok = taken-passed R (length block) (a .nl) (a .qm) (a .g .0) (a .g .0) (length (now (a .out))) (st .pre .0) in
     let plan = c .before .before .before .before .before .plan-accepted in
     let attach = c .before .before .before .attach in
     let count : plan .result .bits ≡ blockBits (length block) = plan .ensures .bits ∙ when-done _ _ _ (ok .0) in
@@ -70,7 +70,7 @@ send-bits-requires c κs =
     let a = st .args in
     let R = now (a .profile) in
     let block = now (a .block) in
-    let ok = taken-passed R (length block) (a .nl) (a .qm) (a .g .0) (length (now (a .out))) (st .pre .0) in
+    let ok = taken-passed R (length block) (a .nl) (a .qm) (a .g .0) (a .g .0) (length (now (a .out))) (st .pre .0) in
     let plan = c .before .before .before .before .before .before .plan-accepted in
     let attach = c .before .before .before .before .attach in
     let count : plan .result .bits ≡ blockBits (length block) = plan .ensures .bits ∙ when-done _ _ _ (ok .0) in
@@ -93,7 +93,7 @@ returns c =
     let a = st .args in
     let R = now (a .profile) in
     let block = now (a .block) in
-    let ok = taken-passed R (length block) (a .nl) (a .qm) (a .g .0) (length (now (a .out))) (st .pre .0) in
+    let ok = taken-passed R (length block) (a .nl) (a .qm) (a .g .0) (a .g .0) (length (now (a .out))) (st .pre .0) in
     let plan = c .before .before .before .before .before .before .before .before .before .plan-accepted in
     let attach = c .before .before .before .before .before .before .before .attach in
     let count : plan .result .bits ≡ blockBits (length block) = plan .ensures .bits ∙ when-done _ _ _ (ok .0) in

@@ -37,9 +37,9 @@ pub record Marked (from to : ℕ) (a b : List ℕ) : Type 0 where
   pub below : (p : ℕ) → p < from → getD b p 0 ≡ getD a p 0
   pub marked : (p : ℕ) → from ≤ p → p < to → getD b p 0 ≡ 2
 
--- all of sendNumber but 15: what is refused before any block is coded
-unfoldable pub takenNumber : List ℕ → ℕ → ℕ → ℕ → ℕ → ℕ → ℕ
-takenNumber R octets nl qm g room =
+-- all of sendNumber but 15: what is refused before any block is coded. `need` octets are to be written: G, or A/8 where bits are received
+unfoldable pub takenNumber : List ℕ → ℕ → ℕ → ℕ → ℕ → ℕ → ℕ → ℕ
+takenNumber R octets nl qm g need room =
     answered
     ((5, not (wellFormed R))
     ∷ (6, not (staircases R))
@@ -47,7 +47,7 @@ takenNumber R octets nl qm g room =
     ∷ (8, misallocated nl qm g)
     ∷ (9, ltb 64 (blocks R (blockBits octets)))
     ∷ (10, tooFewPlaces R octets nl qm g)
-    ∷ (11, ltb room g)
+    ∷ (11, ltb room need)
     ∷ [])
 
 -- the allocation is one of step 5, for c blocks

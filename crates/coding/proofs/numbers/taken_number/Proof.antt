@@ -21,7 +21,7 @@ returns : tie.Need-returns
 returns c =
     let a = c .before .before .before .args in
     let judge = c .before .judge in
-    judge .ensures ∙ taken-first (now (a .profile)) (a .octets) (a .nl) (a .qm) (a .g .0) (a .room) (λ z. c .if1 .taken (judge .ensures ∙ z))
+    judge .ensures ∙ taken-first (now (a .profile)) (a .octets) (a .nl) (a .qm) (a .g .0) (a .need) (a .room) (λ z. c .if1 .taken (judge .ensures ∙ z))
 
 plan-accepted-requires : tie.Need-plan-accepted-requires
 plan-accepted-requires c κs = sym (c .before .judge .ensures) ∙ c .if1 .left
@@ -32,7 +32,7 @@ returns-2 c =
     let R = now (a .profile) in
     let zero = sym (c .before .before .before .judge .ensures) ∙ c .before .before .if1 .left in
     let plan = c .before .plan-accepted in
-    taken-seven R (a .octets) (a .nl) (a .qm) (a .g .0) (a .room) zero (plan .result .number) (plan .ensures .number) (c .if2 .taken)
+    taken-seven R (a .octets) (a .nl) (a .qm) (a .g .0) (a .need) (a .room) zero (plan .result .number) (plan .ensures .number) (c .if2 .taken)
 
 is-misallocated-requires : tie.Need-is-misallocated-requires
 is-misallocated-requires c κs = search needs
@@ -43,7 +43,7 @@ returns-3 c =
     let R = now (a .profile) in
     let zero = sym (c .before .before .before .before .before .judge .ensures) ∙ c .before .before .before .before .if1 .left in
     let plan = c .before .before .before .plan-accepted in
-    taken-eight R (a .octets) (a .nl) (a .qm) (a .g .0) (a .room) zero (plan .result .number) (plan .ensures .number) (c .before .before .if2 .left) (sym (c .before .is-misallocated .ensures) ∙ c .if3 .taken)
+    taken-eight R (a .octets) (a .nl) (a .qm) (a .g .0) (a .need) (a .room) zero (plan .result .number) (plan .ensures .number) (c .before .before .if2 .left) (sym (c .before .is-misallocated .ensures) ∙ c .if3 .taken)
 
 returns-4 : tie.Need-returns-4
 returns-4 c =
@@ -51,7 +51,7 @@ returns-4 c =
     let R = now (a .profile) in
     let zero = sym (c .before .before .before .before .before .before .judge .ensures) ∙ c .before .before .before .before .before .if1 .left in
     let plan = c .before .before .before .before .plan-accepted in
-    taken-nine R (a .octets) (a .nl) (a .qm) (a .g .0) (a .room) zero (plan .result .number) (plan .ensures .number) (c .before .before .before .if2 .left) (sym (c .before .before .is-misallocated .ensures) ∙ c .before .if3 .left) (c .if4 .taken)
+    taken-nine R (a .octets) (a .nl) (a .qm) (a .g .0) (a .need) (a .room) zero (plan .result .number) (plan .ensures .number) (c .before .before .before .if2 .left) (sym (c .before .before .is-misallocated .ensures) ∙ c .before .if3 .left) (c .if4 .taken)
 
 places-requires : tie.Need-places-requires
 places-requires c κs =
@@ -70,7 +70,7 @@ returns-5 c =
     let blocks-is = plan .ensures .blocks ∙ when-done _ _ _ done in
     let places-is = ap (λ (x : SymbolPlaces). x .0) (c .before .before .before .places .ensures) in
     let few : tooFewPlaces R (a .octets) (a .nl) (a .qm) (a .g .0) ≡ true = rw (sym places-is, sym blocks-is) (lt-ltb _ _ (c .if5 .taken)) in
-    taken-ten R (a .octets) (a .nl) (a .qm) (a .g .0) (a .room) zero (plan .result .number) (plan .ensures .number) (c .before .before .before .before .before .before .before .if2 .left) (sym (c .before .before .before .before .before .before .is-misallocated .ensures) ∙ c .before .before .before .before .before .if3 .left) (c .before .before .before .before .if4 .left) few
+    taken-ten R (a .octets) (a .nl) (a .qm) (a .g .0) (a .need) (a .room) zero (plan .result .number) (plan .ensures .number) (c .before .before .before .before .before .before .before .if2 .left) (sym (c .before .before .before .before .before .before .is-misallocated .ensures) ∙ c .before .before .before .before .before .if3 .left) (c .before .before .before .before .if4 .left) few
 
 returns-6 : tie.Need-returns-6
 unfolding tooFewPlaces symbolPlaces
@@ -83,7 +83,7 @@ returns-6 c =
     let blocks-is = plan .ensures .blocks ∙ when-done _ _ _ done in
     let places-is = ap (λ (x : SymbolPlaces). x .0) (c .before .before .before .before .places .ensures) in
     let few : tooFewPlaces R (a .octets) (a .nl) (a .qm) (a .g .0) ≡ false = rw (sym places-is, sym blocks-is) (le-ltb _ _ (c .before .if5 .left)) in
-    taken-eleven R (a .octets) (a .nl) (a .qm) (a .g .0) (a .room) zero (plan .result .number) (plan .ensures .number) (c .before .before .before .before .before .before .before .before .if2 .left) (sym (c .before .before .before .before .before .before .before .is-misallocated .ensures) ∙ c .before .before .before .before .before .before .if3 .left) (c .before .before .before .before .before .if4 .left) few (lt-ltb _ _ (c .if6 .taken))
+    taken-eleven R (a .octets) (a .nl) (a .qm) (a .g .0) (a .need) (a .room) zero (plan .result .number) (plan .ensures .number) (c .before .before .before .before .before .before .before .before .if2 .left) (sym (c .before .before .before .before .before .before .before .is-misallocated .ensures) ∙ c .before .before .before .before .before .before .if3 .left) (c .before .before .before .before .before .if4 .left) few (lt-ltb _ _ (c .if6 .taken))
 
 returns-7 : tie.Need-returns-7
 unfolding tooFewPlaces symbolPlaces
@@ -96,7 +96,7 @@ returns-7 c =
     let blocks-is = plan .ensures .blocks ∙ when-done _ _ _ done in
     let places-is = ap (λ (x : SymbolPlaces). x .0) (c .before .before .before .before .places .ensures) in
     let few : tooFewPlaces R (a .octets) (a .nl) (a .qm) (a .g .0) ≡ false = rw (sym places-is, sym blocks-is) (le-ltb _ _ (c .before .if5 .left)) in
-    taken-done R (a .octets) (a .nl) (a .qm) (a .g .0) (a .room) zero (plan .result .number) (plan .ensures .number) (c .before .before .before .before .before .before .before .before .if2 .left) (sym (c .before .before .before .before .before .before .before .is-misallocated .ensures) ∙ c .before .before .before .before .before .before .if3 .left) (c .before .before .before .before .before .if4 .left) few (le-ltb _ _ (c .if6 .left))
+    taken-done R (a .octets) (a .nl) (a .qm) (a .g .0) (a .need) (a .room) zero (plan .result .number) (plan .ensures .number) (c .before .before .before .before .before .before .before .before .if2 .left) (sym (c .before .before .before .before .before .before .before .is-misallocated .ensures) ∙ c .before .before .before .before .before .before .if3 .left) (c .before .before .before .before .before .if4 .left) few (le-ltb _ _ (c .if6 .left))
 
 pub taken-number-spec : {M : Type 1} → statement M
 taken-number-spec =

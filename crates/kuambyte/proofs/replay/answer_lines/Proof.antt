@@ -9,11 +9,11 @@ use Rattle.kuambyte.proofs.replay.answer_lines.Statement.{statement}
 use Rattle.kuambyte.proofs.replay.answer_lines.Tie as tie
 
 abbrev Inv-loop : tie.InvT-loop
-Inv-loop chunk line₀ record₀ bits₀ lent₀ out₀ reading₀ from₀ line «record» bits lent out reading from =
-    Stands reading line lent out × (length line ≡ length line₀) × (length «record» ≡ length record₀) × (length bits ≡ length bits₀) × (length lent ≡ length lent₀) × (length out ≡ length out₀)
+Inv-loop chunk line₀ records₀ bits₀ lent₀ out₀ reading₀ from₀ line records bits lent out reading from =
+    Stands reading line lent out × (length line ≡ length line₀) × (length records ≡ length records₀) × (length bits ≡ length bits₀) × (length lent ≡ length lent₀) × (length out ≡ length out₀)
 
 abbrev μ-loop : tie.MeasureT-loop
-μ-loop chunk line₀ record₀ bits₀ lent₀ out₀ reading₀ from₀ line «record» bits lent out reading from =
+μ-loop chunk line₀ records₀ bits₀ lent₀ out₀ reading₀ from₀ line records bits lent out reading from =
     length chunk - from
 
 loop-holds : tie.Need-loop-holds Inv-loop μ-loop

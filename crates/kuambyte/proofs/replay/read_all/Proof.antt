@@ -7,11 +7,11 @@ use Rattle.kuambyte.proofs.replay.read_all.Statement.{statement}
 use Rattle.kuambyte.proofs.replay.read_all.Tie as tie
 
 abbrev Inv-loop : tie.InvT-loop
-Inv-loop line₀ record₀ bits₀ lent₀ chunk₀ out₀ reading₀ turns₀ line «record» bits lent chunk out reading turns =
-    Stands reading line lent out × (length line ≡ length line₀) × (length «record» ≡ length record₀) × (length bits ≡ length bits₀) × (length lent ≡ length lent₀) × (length chunk ≡ length chunk₀) × (length out ≡ length out₀)
+Inv-loop line₀ records₀ bits₀ lent₀ chunk₀ out₀ reading₀ turns₀ line records bits lent chunk out reading turns =
+    Stands reading line lent out × (length line ≡ length line₀) × (length records ≡ length records₀) × (length bits ≡ length bits₀) × (length lent ≡ length lent₀) × (length chunk ≡ length chunk₀) × (length out ≡ length out₀)
 
 abbrev μ-loop : tie.MeasureT-loop
-μ-loop line₀ record₀ bits₀ lent₀ chunk₀ out₀ reading₀ turns₀ line «record» bits lent chunk out reading turns =
+μ-loop line₀ records₀ bits₀ lent₀ chunk₀ out₀ reading₀ turns₀ line records bits lent chunk out reading turns =
     turns
 
 loop-holds : tie.Need-loop-holds Inv-loop μ-loop

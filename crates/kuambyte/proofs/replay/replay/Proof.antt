@@ -21,7 +21,7 @@ slice-aggregate-read-all : tie.Need-slice-aggregate-read-all
 slice-aggregate-read-all c = zeros 600000
 
 slice-aggregate-read-all-2 : tie.Need-slice-aggregate-read-all-2
-slice-aggregate-read-all-2 c = zeros 70000
+slice-aggregate-read-all-2 c = zeros 140000
 
 slice-aggregate-read-all-3 : tie.Need-slice-aggregate-read-all-3
 slice-aggregate-read-all-3 c = zeros 140000

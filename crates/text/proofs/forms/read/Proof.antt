@@ -8,10 +8,10 @@ use Rattle.text.proofs.forms.read.Statement.{statement}
 use Rattle.text.proofs.forms.read.Tie as tie
 
 abbrev Inv-loop : tie.InvT-loop
-Inv-loop form request record₀ bits₀ room n given₀ k₀ «record» bits given k = Held given «record» bits room × (length «record» ≡ length record₀) × (length bits ≡ length bits₀)
+Inv-loop form request records₀ bits₀ room n given₀ k₀ records bits given k = Held given records bits room × (length records ≡ length records₀) × (length bits ≡ length bits₀)
 
 abbrev μ-loop : tie.MeasureT-loop
-μ-loop form request record₀ bits₀ room n given₀ k₀ «record» bits given k = n - k
+μ-loop form request records₀ bits₀ room n given₀ k₀ records bits given k = n - k
 
 count-requires : tie.Need-count-requires Inv-loop μ-loop
 count-requires c κs = search needs

@@ -1,0 +1,34 @@
+-- Receiving (document 01, "From block to radio bits"): "Where E ≥ N in every block it accepts exactly the bits that sending some transport
+-- block of that length gives". R is the profile's record, bits the received bits, whose number is G.
+use mathlib.Core.Bool.{Bool, not, _&&_}
+use mathlib.Core.List.{List}
+use Prim.Native.Nat.{ℕ, _*_, _^_}
+use lib.Dec.{ltb}
+use lib.ListN.{length}
+use Rattle.bits.specs.Bits.{same, digits, packed}
+use Rattle.bits.specs.Ranges.{anyTo, firstTo}
+use Rattle.profile.specs.Plan.{blockBits, blocks}
+use Rattle.coding.specs.Blocks.{someWithoutParity, sendable}
+use Rattle.coding.specs.Allocation.{share}
+use Rattle.coding.specs.Joining.{sent}
+
+-- a transport block is sent as these bits: it can be sent, and is sent so
+unfoldable pub sentAs : List ℕ → ℕ → ℕ → List ℕ → List ℕ → Bool
+sentAs R nl qm bits block = not (someWithoutParity R block) && same (sent R block nl qm (length bits)) bits
+
+-- the transport blocks of so many octets: the n-th, for n from 0 to 2^(8·octets) − 1, has the digits of n as its bits
+unfoldable pub nthBlock : ℕ → ℕ → List ℕ
+nthBlock octets n = packed octets (digits (8 * octets) n)
+
+-- "some transport block of that length" is sent as these bits
+unfoldable pub someSentAs : List ℕ → ℕ → ℕ → ℕ → List ℕ → Bool
+someSentAs R octets nl qm bits = anyTo (2 ^ (8 * octets)) (λ n. sentAs R nl qm bits (nthBlock octets n))
+
+-- "It then writes the octets": those of the block that is
+unfoldable pub received : List ℕ → ℕ → ℕ → ℕ → List ℕ → List ℕ
+received R octets nl qm bits = nthBlock octets (firstTo (2 ^ (8 * octets)) (λ n. sentAs R nl qm bits (nthBlock octets n)))
+
+-- 13: "E below N in some block"
+unfoldable pub someWithoutRoom : List ℕ → ℕ → ℕ → ℕ → ℕ → Bool
+someWithoutRoom R octets nl qm g =
+    anyTo (blocks R (blockBits octets)) (λ r. ltb (share nl qm g (blocks R (blockBits octets)) r .0) (sendable R (blockBits octets) r))

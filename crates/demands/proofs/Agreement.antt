@@ -1,0 +1,77 @@
+-- Agreement (document 01, "What the promises say"): "For every input, good or refused, a public call's promise names one result and one content of
+-- the lent memory, so that two implementations meeting it agree; that agreement is proved". Here for every public call. Assumes nothing.
+use mathlib.Core.Path.{_≡_}
+use mathlib.Core.List.{List}
+use Prim.Native.Nat.{ℕ}
+use denote.Ref.{RefT, now, ptr}
+use Rattle.bits.specs.declared.number.Written.{Written}
+use Rattle.checksum.specs.declared.Sum.{Sum}
+use Rattle.checksum.specs.Promises.{OfBits, OfOctets}
+use Rattle.checksum.proofs.Agreement.{of-bits-agree, of-octets-agree}
+use Rattle.profile.specs.declared.Plan.{Plan}
+use Rattle.profile.specs.Promises.{judged, Planned}
+use Rattle.profile.proofs.Agreement.{judge-agree, planned-agree}
+use Rattle.parity.specs.declared.Verdict.{Verdict}
+use Rattle.parity.specs.Promises.{BlockCoded, WordChecked}
+use Rattle.parity.proofs.Agreement.{block-coded-agree, word-checked-agree}
+use Rattle.coding.specs.Promises.{RateMatched, Sent, Received}
+use Rattle.coding.proofs.Agreement.{rate-match-agree, send-agree, receive-agree}
+use Rattle.shelf.specs.Lookup.{lookupNumber}
+use Rattle.shelf.specs.Promises.{LookedUp, HostedSent, HostedReceived}
+use Rattle.shelf.proofs.Agreement.{lookup-number-agree, lookup-agree, hosted-send-agree, hosted-receive-agree}
+
+-- ---- checksum::of_bits, checksum::of_octets
+
+pub of-bits : {w : ℕ} {bits : List ℕ} {r r' : Sum} → OfBits w bits r → OfBits w bits r' → r ≡ r'
+of-bits a b = of-bits-agree a b
+
+pub of-octets : {w : ℕ} {octets : List ℕ} {r r' : Sum} → OfOctets w octets r → OfOctets w octets r' → r ≡ r'
+of-octets a b = of-octets-agree a b
+
+-- ---- profile::judge, profile::plan_block
+
+pub judge : (R : List ℕ) {r r' : ℕ} → r ≡ judged R → r' ≡ judged R → r ≡ r'
+judge R a b = judge-agree R a b
+
+pub plan-block : {R : List ℕ} {octets : ℕ} {r r' : Plan} → Planned R octets r → Planned R octets r' → r ≡ r'
+plan-block a b = planned-agree a b
+
+-- ---- parity::code_block, parity::check_word
+
+pub code-block : {R : List ℕ} {z : ℕ} {places out : List ℕ} {r r' : Written} {o o' : List ℕ}
+    → BlockCoded R z places out r o → BlockCoded R z places out r' o' → (r ≡ r') × (o ≡ o')
+code-block a b = block-coded-agree a b
+
+pub check-word : {R : List ℕ} {z : ℕ} {word : List ℕ} {r r' : Verdict} → WordChecked R z word r → WordChecked R z word r' → r ≡ r'
+check-word a b = word-checked-agree a b
+
+-- ---- coding::rate_match, coding::send, coding::receive
+
+pub rate-match : {coded : List ℕ} {e : ℕ} {out : List ℕ} {r r' : Written} {o o' : List ℕ}
+    → RateMatched coded e out r o → RateMatched coded e out r' o' → (r ≡ r') × (o ≡ o')
+rate-match a b = rate-match-agree a b
+
+pub send : {R block : List ℕ} {nl qm g : ℕ} {out : List ℕ} {r r' : Written} {o o' : List ℕ}
+    → Sent R block nl qm g out r o → Sent R block nl qm g out r' o' → (r ≡ r') × (o ≡ o')
+send a b = send-agree a b
+
+pub receive : {R : List ℕ} {a nl qm : ℕ} {bits out : List ℕ} {r r' : Written} {o o' : List ℕ}
+    → Received R a nl qm bits out r o → Received R a nl qm bits out r' o' → (r ≡ r') × (o ≡ o')
+receive a b = receive-agree a b
+
+-- ---- shelf::lookup_number, shelf::lookup (a stretch is its octets and its place), shelf::hosted_send, shelf::hosted_receive
+
+pub lookup-number : (private public : List ℕ) (t p : ℕ) {r r' : ℕ} → r ≡ lookupNumber private public t p → r' ≡ lookupNumber private public t p → r ≡ r'
+lookup-number private public t p a b = lookup-number-agree private public t p a b
+
+pub lookup : {private public : RefT (List ℕ)} {t p : ℕ} {r r' : RefT (List ℕ)}
+    → LookedUp private public t p r → LookedUp private public t p r' → (now r ≡ now r') × (ptr r ≡ ptr r')
+lookup a b = lookup-agree a b
+
+pub hosted-send : {private public : List ℕ} {t p : ℕ} {block : List ℕ} {nl qm g : ℕ} {out : List ℕ} {r r' : Written} {o o' : List ℕ}
+    → HostedSent private public t p block nl qm g out r o → HostedSent private public t p block nl qm g out r' o' → (r ≡ r') × (o ≡ o')
+hosted-send a b = hosted-send-agree a b
+
+pub hosted-receive : {private public : List ℕ} {t p a nl qm : ℕ} {bits out : List ℕ} {r r' : Written} {o o' : List ℕ}
+    → HostedReceived private public t p a nl qm bits out r o → HostedReceived private public t p a nl qm bits out r' o' → (r ≡ r') × (o ≡ o')
+hosted-receive a b = hosted-receive-agree a b

@@ -1,0 +1,340 @@
+-- No statement is empty: with the toy profile of document 01 there are sendings and receptions that are accepted, and every refusal from 1 to 14 is
+-- reached. The searches of 14 and of what is received are never computed; the laws decide them. Assumes nothing.
+use mathlib.Core.Path.{_≡_, refl, sym, ap, _∙_, subst}
+use mathlib.Core.Bool.{true, false, true≢false}
+use mathlib.Core.List.{List, [], _∷_, _++_, map}
+use Prim.Native.Nat.{ℕ, zero, suc, _≤_}
+use native.Mathlib.Omega.{arith}
+use lib.Dec.{lit<, lit≤}
+use lib.ListN.{length, getD, take, drop, replicate, set}
+use Rattle.bits.specs.Bits.{AreOctets, someOver, numberAt, readOn, number, unpacked, digits}
+use Rattle.bits.specs.Counts.{placesOf, bitsOf}
+use Rattle.bits.specs.Numbers.{answered, whenDone}
+use Rattle.bits.specs.Ranges.{sumTo, parityTo, allTo, anyTo, firstTo}
+use Rattle.bits.specs.declared.number.Written.{Written}
+use Rattle.bits.proofs.Over.{over-none-bits}
+use Rattle.checksum.specs.Crc.{reduce, divideOn, remainder, checksum, attached}
+use Rattle.checksum.specs.Crc as crc
+use Rattle.checksum.proofs.Attachment.{checks-complete}
+use Rattle.profile.specs.Record.{kb, m, t, z, offset, tableSize, table, entry, headerRight, offsetDue, lengthRight, rises, sizeRight, shiftRight, tableRight, wellFormed}
+use Rattle.profile.specs.Staircase.{firstDue, nextDue, rowRight, stairsAt, staircase, staircases}
+use Rattle.profile.specs.Plan.{ceil, blockBits, kmax, blocks, ownBits, sizeFor, sizeOf, places, filler}
+use Rattle.profile.specs.Promises.{planNumber}
+use Rattle.profile.proofs.Plans.{plan-cut}
+use Rattle.parity.specs.Matrix.{square, spread, bitAt, rowEven, checks}
+use Rattle.parity.specs.Coded.{withParity, chosen, hasParity, coded}
+use Rattle.coding.specs.Transport.{transport}
+use Rattle.coding.specs.Cutting.{ownStart, own, systematic}
+use Rattle.coding.specs.Allocation.{misallocated, symbolPlaces, share}
+use Rattle.coding.specs.Blocks.{codedBlock, blockHasParity, someWithoutParity, sendable}
+use Rattle.coding.specs.Receiving.{someWithoutRoom}
+use Rattle.coding.specs.Promises.{tooFewPlaces, sendNumber, Sent, notOctets, receiveNumber, Received}
+use Rattle.coding.specs.steps.Receiving.{shareStart, ownHeard, gathered, Heard}
+use Rattle.coding.specs.Matching.{kept, listTo, matched}
+use Rattle.coding.specs.Joining.{blockSent, joined, padded, sent}
+use Rattle.coding.proofs.RoundTrip.{Roomy, sent-front, sent-returns, unsent-exactly}
+use Rattle.coding.proofs.Worked.{toy, sixteen}
+use Rattle.coding.proofs.Shares.{allocated}
+use Rattle.coding.proofs.Received.{block-gathered}
+use Rattle.coding.proofs.Transported.{generator-24}
+use Rattle.coding.proofs.Worked as sends
+use Rattle.shelf.specs.Shelf as shelves
+use Rattle.shelf.specs.Promises.{HostedReceived}
+use Rattle.shelf.specs.Lookup.{isEntry, has, entryOf, recordOf, lookupNumber, lookupRecord}
+use Rattle.demands.proofs.Hosted.{receive-hosted}
+use Rattle.demands.proofs.Worked.{worked}
+
+-- ---- every refusal that is not of the coded bits themselves, by computing: sending
+
+-- the toy record with the shift 1 for 0 in the middle row of column kb: well formed, but no staircase
+unfoldable pub bent : List ℕ
+bent = set toy 15 1
+
+pub record Sending : Type 0 where
+  pub profile : List ℕ
+  pub block : List ℕ
+  pub nl : ℕ
+  pub qm : ℕ
+  pub g : ℕ
+  pub room : ℕ
+  pub due : ℕ
+
+unfoldable pub sendings : List Sending
+sendings =
+    record { profile = toy; block = 0x01 ∷ []; nl = 1; qm = 2; g = 128; room = 128; due = 0 }
+    ∷ record { profile = toy; block = 0x01 ∷ []; nl = 1; qm = 2; g = 130; room = 200; due = 0 }
+    ∷ record { profile = toy; block = 0x01 ∷ []; nl = 1; qm = 2; g = 126; room = 126; due = 0 }
+    ∷ record { profile = []; block = 0x01 ∷ []; nl = 1; qm = 2; g = 128; room = 128; due = 5 }
+    ∷ record { profile = bent; block = 0x01 ∷ []; nl = 1; qm = 2; g = 128; room = 128; due = 6 }
+    ∷ record { profile = toy; block = []; nl = 1; qm = 2; g = 128; room = 128; due = 7 }
+    ∷ record { profile = toy; block = 0x01 ∷ []; nl = 1; qm = 2; g = 129; room = 129; due = 8 }
+    ∷ record { profile = toy; block = replicate 14 0; nl = 1; qm = 2; g = 128; room = 128; due = 9 }
+    ∷ record { profile = toy; block = 0x01 ∷ []; nl = 1; qm = 2; g = 30; room = 30; due = 10 }
+    ∷ record { profile = toy; block = 0x01 ∷ []; nl = 1; qm = 2; g = 128; room = 127; due = 11 }
+    ∷ []
+
+abbrev pub sending : Sending → ℕ
+sending c = sendNumber (c .profile) (c .block) (c .nl) (c .qm) (c .g) (c .room)
+
+abbrev pub sendingDue : Sending → ℕ
+sendingDue c = c .due
+
+pub sendings-answered : map sending sendings ≡ map sendingDue sendings
+unfolding sendings bent toy sendNumber answered misallocated tooFewPlaces share symbolPlaces placesOf bitsOf numberAt digits readOn number unpacked sumTo parityTo
+    allTo anyTo firstTo reduce divideOn remainder checksum attached kb m t z offset tableSize table entry headerRight offsetDue lengthRight rises sizeRight shiftRight
+    tableRight wellFormed firstDue nextDue rowRight stairsAt staircase staircases ceil blockBits kmax blocks ownBits sizeFor sizeOf places filler square spread bitAt
+    rowEven checks withParity chosen hasParity transport ownStart own systematic blockHasParity someWithoutParity
+sendings-answered = refl
+
+-- ---- and receiving
+
+pub record Receiving : Type 0 where
+  pub profile : List ℕ
+  pub a : ℕ
+  pub nl : ℕ
+  pub qm : ℕ
+  pub bits : List ℕ
+  pub room : ℕ
+  pub due : ℕ
+
+unfoldable pub receivings : List Receiving
+receivings =
+    record { profile = []; a = 8; nl = 1; qm = 2; bits = replicate 128 0; room = 1; due = 5 }
+    ∷ record { profile = bent; a = 8; nl = 1; qm = 2; bits = replicate 128 0; room = 1; due = 6 }
+    ∷ record { profile = toy; a = 9; nl = 1; qm = 2; bits = replicate 128 0; room = 1; due = 7 }
+    ∷ record { profile = toy; a = 8; nl = 1; qm = 2; bits = replicate 129 0; room = 1; due = 8 }
+    ∷ record { profile = toy; a = 112; nl = 1; qm = 2; bits = replicate 128 0; room = 14; due = 9 }
+    ∷ record { profile = toy; a = 8; nl = 1; qm = 2; bits = replicate 30 0; room = 1; due = 10 }
+    ∷ record { profile = toy; a = 8; nl = 1; qm = 2; bits = replicate 128 0; room = 0; due = 11 }
+    ∷ record { profile = toy; a = 8; nl = 1; qm = 2; bits = replicate 127 0 ++ (2 ∷ []); room = 1; due = 12 }
+    ∷ record { profile = toy; a = 8; nl = 1; qm = 2; bits = replicate 126 0; room = 1; due = 13 }
+    ∷ []
+
+abbrev pub receiving : Receiving → ℕ
+receiving c = receiveNumber (c .profile) (c .a) (c .nl) (c .qm) (c .bits) (c .room)
+
+abbrev pub receivingDue : Receiving → ℕ
+receivingDue c = c .due
+
+pub receivings-answered : map receiving receivings ≡ map receivingDue receivings
+unfolding receivings bent toy receiveNumber answered notOctets misallocated tooFewPlaces share symbolPlaces placesOf bitsOf someOver someWithoutRoom sendable numberAt
+    allTo anyTo firstTo kb m t z offset tableSize table entry headerRight offsetDue lengthRight rises sizeRight shiftRight tableRight wellFormed firstDue nextDue
+    rowRight stairsAt staircase staircases ceil blockBits kmax blocks ownBits sizeFor sizeOf places filler
+receivings-answered = refl
+
+-- ---- lookup, on a shelf where tenant 1 has the toy record as number 7
+
+unfoldable pub shelf : List ℕ
+shelf = 0 ∷ 1 ∷ 0 ∷ 1 ∷ 0 ∷ 7 ∷ 0 ∷ 10 ∷ 0 ∷ 22 ∷ toy
+
+unfoldable pub bare : List ℕ
+bare = 0 ∷ 0 ∷ []
+
+pub record Asking : Type 0 where
+  pub private : List ℕ
+  pub public : List ℕ
+  pub tenant : ℕ
+  pub number : ℕ
+  pub due : ℕ
+
+unfoldable pub askings : List Asking
+askings =
+    record { private = shelf; public = bare; tenant = 1; number = 7; due = 0 }
+    ∷ record { private = shelf; public = bare; tenant = 0; number = 7; due = 1 }
+    ∷ record { private = []; public = bare; tenant = 1; number = 7; due = 2 }
+    ∷ record { private = shelf; public = shelf; tenant = 1; number = 7; due = 3 }
+    ∷ record { private = shelf; public = bare; tenant = 2; number = 7; due = 4 }
+    ∷ []
+
+abbrev pub asking : Asking → ℕ
+asking c = lookupNumber (c .private) (c .public) (c .tenant) (c .number)
+
+abbrev pub askingDue : Asking → ℕ
+askingDue c = c .due
+
+pub askings-answered : map asking askings ≡ map askingDue askings
+unfolding askings shelf bare toy lookupNumber answered numberAt allTo anyTo shelves.wellFormed shelves.sizesRight shelves.endsRight shelves.entryRight shelves.tenantRight
+    shelves.rises shelves.offsetDue shelves.count shelves.tenant shelves.profile shelves.offset shelves.size has isEntry
+askings-answered = refl
+
+pub looked-up : lookupRecord shelf bare 1 7 ≡ toy
+unfolding shelf bare toy lookupRecord lookupNumber answered whenDone numberAt allTo anyTo firstTo shelves.wellFormed shelves.sizesRight shelves.endsRight
+    shelves.entryRight shelves.tenantRight shelves.rises shelves.offsetDue shelves.count shelves.tenant shelves.profile shelves.offset shelves.size shelves.recordAt has
+    isEntry entryOf recordOf
+looked-up = refl
+
+-- ---- "Take an accepted profile, block length and allocation in which every code block has room": there are some
+
+pub record Room (g : ℕ) : Type 0 where
+  pub direct : Roomy toy 1 1 2 g
+  pub hosted : Roomy (lookupRecord shelf bare 1 7) 1 1 2 g
+
+planned : planNumber toy 1 ≡ 0
+unfolding planNumber answered toy numberAt allTo anyTo kb m t z offset tableSize table entry headerRight offsetDue lengthRight rises sizeRight shiftRight tableRight
+    wellFormed firstDue nextDue rowRight stairsAt staircase staircases ceil blockBits kmax blocks
+planned = refl
+
+roomy : (g : ℕ) → Roomy toy 1 1 2 g → Room g
+roomy g h = record { direct = h; hosted = subst (λ (R : List ℕ). Roomy R 1 1 2 g) (sym looked-up) h }
+
+pub room-128 : Room 128
+unfolding misallocated tooFewPlaces someWithoutRoom sendable share symbolPlaces placesOf bitsOf toy numberAt anyTo firstTo kb m t z ceil blockBits kmax blocks ownBits
+    sizeFor sizeOf places filler
+room-128 = roomy 128 (record { taken = planned; allocation = refl; enough = refl; room = refl })
+
+pub room-130 : Room 130
+unfolding misallocated tooFewPlaces someWithoutRoom sendable share symbolPlaces placesOf bitsOf toy numberAt anyTo firstTo kb m t z ceil blockBits kmax blocks ownBits
+    sizeFor sizeOf places filler
+room-130 = roomy 130 (record { taken = planned; allocation = refl; enough = refl; room = refl })
+
+pub room-256 : Room 256
+unfolding misallocated tooFewPlaces someWithoutRoom sendable share symbolPlaces placesOf bitsOf toy numberAt anyTo firstTo kb m t z ceil blockBits kmax blocks ownBits
+    sizeFor sizeOf places filler
+room-256 = roomy 256 (record { taken = planned; allocation = refl; enough = refl; room = refl })
+
+-- ---- a reception that is accepted: the 128 bits of P10
+
+-- a call of `send` that keeps its promise
+abbrev answerOf : ℕ → ℕ → Written
+answerOf n k = record { number = n; count = whenDone n k 0 }
+
+sent-so : (R block : List ℕ) (nl qm g : ℕ) (out : List ℕ)
+    → Sent R block nl qm g out (answerOf (sendNumber R block nl qm g (length out)) g)
+    (whenDone (sendNumber R block nl qm g (length out)) (sent R block nl qm g ++ drop g out) out)
+sent-so R block nl qm g out = record { number = refl; count = refl; output = refl }
+
+one-octet : AreOctets (0x01 ∷ [])
+one-octet zero = lit< tt
+one-octet (suc k) = lit< tt
+
+done-128 : sendNumber toy (0x01 ∷ []) 1 2 128 (length (replicate {A = ℕ} 128 0)) ≡ 0
+unfolding sendings
+done-128 = ap (λ (l : List ℕ). getD l 0 0) sendings-answered
+
+-- "receiving the sent bits returns the block", and the octet behind it stays as it was
+pub accepted : {r : Written} {buf' : List ℕ} → Received toy 8 1 2 (unpacked sixteen) (0x55 ∷ 0xAA ∷ []) r buf'
+    → (r .number ≡ 0) × (r .count ≡ 1) × (buf' ≡ 0x01 ∷ 0xAA ∷ [])
+unfolding sixteen
+accepted {r} {buf'} v =
+    let s = sent-so toy (0x01 ∷ []) 1 2 128 (replicate 128 0) in
+    let o : List ℕ = whenDone (sendNumber toy (0x01 ∷ []) 1 2 128 128) (sent toy (0x01 ∷ []) 1 2 128 ++ drop 128 (replicate 128 0)) (replicate 128 0) in
+    let is : take 128 o ≡ unpacked sixteen = sent-front s done-128 ∙ worked .p10 in
+    let got = sent-returns (room-128 .direct) one-octet (lit≤ tt) s done-128
+    (subst (λ (l : List ℕ). Received toy 8 1 2 l (0x55 ∷ 0xAA ∷ []) r buf') (sym is) v) in
+    (got .0, got .1, got .3)
+
+-- the same for tenant 1, who has the toy record as number 7
+pub hosted-accepted : {r : Written} {buf' : List ℕ} → HostedReceived shelf bare 1 7 8 1 2 (unpacked sixteen) (0x55 ∷ 0xAA ∷ []) r buf'
+    → (r .number ≡ 0) × (r .count ≡ 1) × (buf' ≡ 0x01 ∷ 0xAA ∷ [])
+unfolding askings
+hosted-accepted {r} {buf'} v =
+    let z : lookupNumber shelf bare 1 7 ≡ 0 = ap (λ (l : List ℕ). getD l 0 0) askings-answered in
+    accepted (subst (λ (R : List ℕ). Received R 8 1 2 (unpacked sixteen) (0x55 ∷ 0xAA ∷ []) r buf') looked-up (receive-hosted shelf bare 1 7 z v))
+
+-- ---- receptions that are refused with 14
+
+module _ (bits : List ℕ) (h : Roomy toy 1 1 2 (length bits)) (none : someOver 1 bits ≡ false) where
+  heard : Heard toy 1 1 2 bits
+  heard =
+      record {
+        taken = h .taken;
+        allocated = allocated 1 2 (length bits) (blocks toy (blockBits 1)) (h .allocation) (plan-cut toy 1 (h .taken) .some);
+        single = over-none-bits bits none;
+        room = h .room;
+      }
+
+  -- only one list of transport bits can have been sent as them: where no block has it, or it is not sent as them, they are refused
+  refused : ((block : List ℕ) → transport block ≡ gathered toy (blockBits 1) 1 2 bits → sent toy block 1 2 (length bits) ≡ bits → ⊥)
+      → {buf : List ℕ} {r : Written} {buf' : List ℕ} → 1 ≤ length buf → Received toy 8 1 2 bits buf r buf' → r .number ≡ 14
+  refused other fits v =
+      unsent-exactly h (over-none-bits bits none) fits v .1
+      (λ block whole size s.
+      let is : sent toy block 1 2 (length bits) ≡ bits = sym (sent-front (s .promise) (s .done)) ∙ s .bits-are in
+      other block (block-gathered toy 1 1 2 bits heard block size is) is)
+
+-- "the checksum": all ones
+unfoldable pub ones : List ℕ
+ones = replicate 128 1
+
+ones-gathered : crc.checks 24 crc.gen24A (gathered toy (blockBits 1) 1 2 ones) ≡ false
+unfolding ones toy gathered ownHeard shareStart joined share symbolPlaces placesOf bitsOf numberAt digits readOn number sumTo firstTo anyTo reduce divideOn remainder
+    checksum attached kb m t z ceil blockBits kmax blocks ownBits crc.checks
+ones-gathered = refl
+
+pub ones-refused : {buf : List ℕ} {r : Written} {buf' : List ℕ} → 1 ≤ length buf → Received toy 8 1 2 ones buf r buf' → r .number ≡ 14
+unfolding ones transport someOver
+ones-refused fits v =
+    refused ones (room-128 .direct) refl
+    (λ block e is.
+    true≢false (sym (checks-complete 24 crc.gen24A (generator-24 .below) (unpacked block)) ∙ ap (crc.checks 24 crc.gen24A) e ∙ ones-gathered))
+    fits v
+
+-- bits that are gathered as those of octet 01 are, but are not what it is sent as
+module _ (bits : List ℕ) (h : Roomy toy 1 1 2 (length bits)) (none : someOver 1 bits ≡ false)
+    (e : gathered toy (blockBits 1) 1 2 bits ≡ transport (0x01 ∷ [])) (other : sent toy (0x01 ∷ []) 1 2 (length bits) ≡ bits → ⊥) where
+  refused-one : {buf : List ℕ} {r : Written} {buf' : List ℕ} → 1 ≤ length buf → Received toy 8 1 2 bits buf r buf' → r .number ≡ 14
+  unfolding sent
+  refused-one fits v =
+      refused bits h none
+      (λ block q is.
+      other (ap (λ (u : List ℕ). padded (length bits) (joined (blocks toy (length u)) (blockSent toy u 1 2 (length bits)))) (sym e ∙ sym q) ∙ is))
+      fits v
+
+-- "all parity rows": the bits of P10 with the last one turned over
+unfoldable pub turned : List ℕ
+turned = set (unpacked sixteen) 127 1
+
+-- "zeros at the end": with two bits more, the last of which is 1
+unfoldable pub ended : List ℕ
+ended = unpacked sixteen ++ (0 ∷ 1 ∷ [])
+
+turned-gathered : gathered toy (blockBits 1) 1 2 turned ≡ transport (0x01 ∷ [])
+unfolding turned sixteen toy gathered ownHeard shareStart joined share symbolPlaces placesOf bitsOf numberAt digits unpacked readOn number sumTo firstTo anyTo reduce divideOn
+    remainder checksum attached transport kb m t z ceil blockBits kmax blocks ownBits
+turned-gathered = refl
+
+ended-gathered : gathered toy (blockBits 1) 1 2 ended ≡ transport (0x01 ∷ [])
+unfolding ended sixteen toy gathered ownHeard shareStart joined share symbolPlaces placesOf bitsOf numberAt digits unpacked readOn number sumTo firstTo anyTo reduce divideOn
+    remainder checksum attached transport kb m t z ceil blockBits kmax blocks ownBits
+ended-gathered = refl
+
+pub turned-refused : {buf : List ℕ} {r : Written} {buf' : List ℕ} → 1 ≤ length buf → Received toy 8 1 2 turned buf r buf' → r .number ≡ 14
+unfolding turned sixteen digits unpacked someOver
+turned-refused fits v =
+    refused-one turned (room-128 .direct) refl turned-gathered
+    (λ e. let z : _≡_ {A = ℕ} 0 1 = ap (λ (l : List ℕ). getD l 127 0) (sym (worked .p10) ∙ e) in omega arith) fits v
+
+sent-130 : sent toy (0x01 ∷ []) 1 2 130 ≡ unpacked sixteen ++ (0 ∷ 0 ∷ [])
+unfolding sends.cases
+sent-130 = ap (λ (l : List (List ℕ)). getD l 1 []) sends.worked
+
+pub ended-refused : {buf : List ℕ} {r : Written} {buf' : List ℕ} → 1 ≤ length buf → Received toy 8 1 2 ended buf r buf' → r .number ≡ 14
+unfolding ended sixteen digits unpacked someOver
+ended-refused fits v =
+    refused-one ended (room-130 .direct) refl ended-gathered
+    (λ e. let z : _≡_ {A = ℕ} 0 1 = ap (λ (l : List ℕ). getD l 129 0) (sym sent-130 ∙ e) in omega arith) fits v
+
+-- "equal copies": G 256 gives every block 16 bits, its coded places twice; the last one turned over
+unfoldable pub doubled : List ℕ → List ℕ
+doubled [] = []
+doubled (x ∷ l) = x ∷ x ∷ doubled l
+
+unfoldable pub copied : List ℕ
+copied = set (unpacked (doubled sixteen)) 255 1
+
+sent-256 : sent toy (0x01 ∷ []) 1 2 256 ≡ unpacked (doubled sixteen)
+unfolding doubled toy sixteen digits readOn number unpacked numberAt placesOf bitsOf sumTo parityTo allTo anyTo firstTo reduce divideOn remainder checksum attached kb m t z
+    offset tableSize table entry ceil kmax blocks ownBits sizeFor sizeOf places filler square spread bitAt rowEven checks withParity chosen coded transport ownStart own
+    systematic codedBlock symbolPlaces share kept listTo matched blockSent joined padded sent
+sent-256 = refl
+
+copied-gathered : gathered toy (blockBits 1) 1 2 copied ≡ transport (0x01 ∷ [])
+unfolding doubled copied sixteen toy gathered ownHeard shareStart joined share symbolPlaces placesOf bitsOf numberAt digits unpacked readOn number sumTo firstTo anyTo reduce
+    divideOn remainder checksum attached transport kb m t z ceil blockBits kmax blocks ownBits
+copied-gathered = refl
+
+pub copied-refused : {buf : List ℕ} {r : Written} {buf' : List ℕ} → 1 ≤ length buf → Received toy 8 1 2 copied buf r buf' → r .number ≡ 14
+unfolding doubled copied sixteen digits unpacked someOver
+copied-refused fits v =
+    refused-one copied (room-256 .direct) refl copied-gathered
+    (λ e. let z : _≡_ {A = ℕ} 0 1 = ap (λ (l : List ℕ). getD l 255 0) (sym sent-256 ∙ e) in omega arith) fits v

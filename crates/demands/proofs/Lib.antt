@@ -1,0 +1,10 @@
+pub mod Agreement
+pub mod Lowest
+pub mod Outputs
+pub mod Hosted
+pub mod Steps
+pub mod Demand1
+pub mod Demand2
+pub mod Demand3
+pub mod Worked
+pub mod Examples

@@ -1,0 +1,94 @@
+-- The number that is answered is the lowest whose condition holds. Assumes nothing.
+use mathlib.Core.Path.{_≡_, refl, sym, _∙_}
+use mathlib.Core.Bool.{Bool, true, false}
+use mathlib.Core.List.{List, [], _∷_, _++_}
+use mathlib.Core.Logic.{inl, inr}
+use Prim.Native.Nat.{ℕ, _≤_, _<_}
+use native.Mathlib.Omega.{arith}
+use borrow.Author.Tests.{ltb-true}
+use lib.Dec.{ltb}
+use Rattle.bits.specs.Numbers.{answered, whenDone}
+use Rattle.bits.proofs.Answers.{first-part, last-part, Refusals, when-done, when-refused}
+use Rattle.bits.proofs.Ranges.{both, equal-or}
+use Rattle.demands.specs.Numbers.{Lowest, NoneHolds, rising, Answers, Applies, NoneBelow}
+
+pub lowest-answered : (l : List (ℕ × Bool)) (n : ℕ) → Lowest n l → answered l ≡ n
+unfolding Lowest answered
+lowest-answered [] n h = absurd h
+lowest-answered ((k, c) ∷ l) n (inl h) = rw (h .1) (sym (h .0))
+lowest-answered ((k, c) ∷ l) n (inr h) = rw (h .0) (lowest-answered l n (h .1))
+
+pub answered-lowest : (l : List (ℕ × Bool)) (n : ℕ) → (n ≡ 0 → ⊥) → answered l ≡ n → Lowest n l
+unfolding Lowest answered
+answered-lowest [] n some e = absurd (some (sym e))
+answered-lowest ((k, true) ∷ l) n some e = inl (sym e, refl)
+answered-lowest ((k, false) ∷ l) n some e = inr (refl, answered-lowest l n some e)
+
+pub none-answered : (l : List (ℕ × Bool)) → NoneHolds l → answered l ≡ 0
+unfolding NoneHolds answered
+none-answered [] h = refl
+none-answered ((k, c) ∷ l) h = rw (h .0) (none-answered l (h .1))
+
+pub answered-none : (l : List (ℕ × Bool)) (b : ℕ) → rising b l ≡ true → answered l ≡ 0 → NoneHolds l
+unfolding NoneHolds answered rising
+answered-none [] b up e = tt
+answered-none ((k, true) ∷ l) b up e = absurd (let h = ltb-true b k (both (ltb b k) (rising k l) up .0) in omega arith)
+answered-none ((k, false) ∷ l) b up e = (refl, answered-none l k (both (ltb b k) (rising k l) up .1) e)
+
+-- all of it, for a list whose numbers strictly rise from above 0
+pub answers : (l : List (ℕ × Bool)) → rising 0 l ≡ true → {number : ℕ} → number ≡ answered l → Answers number l
+answers l up e =
+    record {
+      rises = up;
+      given = λ n h. e ∙ lowest-answered l n h;
+      only = λ n some q. answered-lowest l n some (sym e ∙ q);
+      done = λ h. e ∙ none-answered l h;
+      only-done = λ q. answered-none l 0 up (sym e ∙ q);
+    }
+
+-- ---- in such a list what comes before is what is below
+
+-- a number that applies is above those that the list rises from
+applies-above : (l : List (ℕ × Bool)) (b n : ℕ) → rising b l ≡ true → Applies n l → b < n
+unfolding rising Applies
+applies-above [] b n up h = absurd h
+applies-above ((k, c) ∷ l) b n up (inl h) = omega (arith, ltb-true b k (both (ltb b k) (rising k l) up .0), h .0)
+applies-above ((k, c) ∷ l) b n up (inr h) =
+    let parts = both (ltb b k) (rising k l) up in
+    omega (arith, ltb-true b k (parts .0), applies-above l k n (parts .1) h)
+
+-- and nothing is below what it rises from
+none-below : (l : List (ℕ × Bool)) (b n : ℕ) → n ≤ b → rising b l ≡ true → NoneBelow n l
+unfolding rising NoneBelow
+none-below [] b n h up = tt
+none-below ((k, c) ∷ l) b n h up =
+    let parts = both (ltb b k) (rising k l) up in
+    let over = ltb-true b k (parts .0) in
+    (λ (q : k < n). absurd (omega arith), none-below l k n (omega arith) (parts .1))
+
+pub lowest-is : (l : List (ℕ × Bool)) (b n : ℕ) → rising b l ≡ true → Lowest n l → (Applies n l) × (NoneBelow n l)
+unfolding rising Lowest Applies NoneBelow
+lowest-is [] b n up h = absurd h
+lowest-is ((k, c) ∷ l) b n up (inl h) =
+    let parts = both (ltb b k) (rising k l) up in
+    (inl h, (λ (q : k < n). absurd (omega (arith, h .0)), none-below l k n (omega (arith, h .0)) (parts .1)))
+lowest-is ((k, c) ∷ l) b n up (inr h) =
+    let parts = both (ltb b k) (rising k l) up in
+    let rest = lowest-is l k n (parts .1) (h .1) in
+    (inr (rest .0), (λ (q : k < n). h .0, rest .1))
+
+pub is-lowest : (l : List (ℕ × Bool)) (b n : ℕ) → rising b l ≡ true → Applies n l → NoneBelow n l → Lowest n l
+unfolding rising Lowest Applies NoneBelow
+is-lowest [] b n up h low = absurd h
+is-lowest ((k, c) ∷ l) b n up (inl h) low = inl h
+is-lowest ((k, c) ∷ l) b n up (inr h) low =
+    let parts = both (ltb b k) (rising k l) up in
+    inr (low .0 (applies-above l k n (parts .1) h), is-lowest l k n (parts .1) h (low .1))
+
+-- ---- a call that does another first: the first one's number where it refuses, else the second one's
+
+pub one-list : (xs ys : List (ℕ × Bool)) → Refusals xs → whenDone (answered xs) (answered ys) (answered xs) ≡ answered (xs ++ ys)
+one-list xs ys all =
+    equal-or (answered xs) 0
+    (λ e. when-done (answered xs) (answered ys) (answered xs) e ∙ sym (last-part xs ys all e))
+    (λ n. when-refused (answered xs) (answered ys) (answered xs) n ∙ sym (first-part xs ys n))

@@ -1,0 +1,204 @@
+-- What a transport block is sent as follows the six steps of document 01, and no other bits do. Assumes nothing.
+use mathlib.Core.Path.{_≡_, refl, sym, ap, ap₂, _∙_, subst}
+use mathlib.Core.Bool.{true, false, not}
+use mathlib.Core.List.{List, _++_}
+use Prim.Native.Nat.{ℕ, zero, suc, _+_, _-_, _*_, _%_, _≤_, _<_}
+use native.Mathlib.Nat.{add-mul, suc-mul, zero-mul}
+use native.Mathlib.Omega.{arith}
+use borrow.Author.Tests.{not-false}
+use lib.ListN.{length, getD, take, drop, replicate, length-append, length-replicate, take-append-drop}
+use lib.Seq.{drop-at}
+use Rattle.bits.specs.Counts.{placesOf, bitsOf}
+use Rattle.bits.specs.Ranges.{sumTo}
+use Rattle.bits.proofs.Lists.{length-part}
+use Rattle.bits.proofs.Ranges.{none-any}
+use Rattle.checksum.specs.Crc.{attached}
+use Rattle.profile.specs.Record.{kb, m, z, table}
+use Rattle.profile.specs.Plan.{blockBits, blocks, ownBits, sizeOf, places, filler}
+use Rattle.profile.specs.Promises.{planNumber}
+use Rattle.profile.proofs.Plans.{Cut, plan-passed, plan-cut}
+use Rattle.parity.specs.Matrix.{checks}
+use Rattle.parity.specs.Coded.{hasParity, coded}
+use Rattle.parity.proofs.Coded.{coded-length, coded-take, coded-bits, coded-checks, coded-unique}
+use Rattle.parity.proofs.Ready.{table-stairs}
+use Rattle.coding.specs.Transport.{transport}
+use Rattle.coding.specs.Cutting.{ownStart, own, systematic}
+use Rattle.coding.specs.Blocks.{blockHasParity, codedBlock, someWithoutParity}
+use Rattle.coding.specs.Allocation.{symbolPlaces, share}
+use Rattle.coding.specs.Matching.{kept, matched}
+use Rattle.coding.specs.Joining.{blockSent, joined, padded, sent}
+use Rattle.coding.proofs.Joining.{joined-part, joined-same, joined-cut}
+use Rattle.coding.proofs.Places.{length-list}
+use Rattle.coding.proofs.RoundTrip.{sent-length, sent-bits}
+use Rattle.coding.proofs.Shares.{sum-mono}
+use Rattle.coding.proofs.Transported.{length-transport}
+use Rattle.demands.specs.Steps.{blockCount, blockPlaces, blockSize, blockShare, Word, Steps}
+
+module _ (R block : List ℕ) (nl qm g : ℕ) (taken : planNumber R (length block) ≡ 0) (parity : someWithoutParity R block ≡ false) where
+  abbrev u : List ℕ
+  u = transport block
+
+  abbrev b : ℕ
+  b = blockBits (length block)
+
+  abbrev c : ℕ
+  c = blocks R b
+
+  abbrev i : ℕ
+  i = sizeOf R b
+
+  cut : Cut R b
+  cut = plan-cut R (length block) taken
+
+  size : length u ≡ b
+  size = length-transport block
+
+  mine : ℕ → ℕ
+  mine = ownBits b c
+
+  -- ---- the own bits
+
+  own-is : (r : ℕ) → own R u r ≡ take (mine r) (drop (ownStart R b r) u)
+  unfolding own mine
+  own-is r = rw size
+
+  own-size : (r : ℕ) → r < c → length (own R u r) ≡ mine r
+  unfolding ownStart sumTo mine
+  own-size r l =
+      let within : suc r ≤ c = omega arith in
+      ap length (own-is r) ∙ length-part (mine r) (ownStart R b r) u (omega (arith, size, cut .own-sum, sum-mono mine (suc r) c within))
+
+  own-fits : (r : ℕ) → mine r ≤ places R b
+  unfolding mine
+  own-fits r = omega (arith, cut .own-most r, cut .room)
+
+  -- ---- the coded block
+
+  sys : ℕ → List ℕ
+  sys r = own R u r ++ replicate (places R b - mine r) 2
+
+  sys-size : (r : ℕ) → r < c → length (sys r) ≡ kb R * z R i
+  unfolding sys
+  sys-size r l =
+      length-append (own R u r) (replicate (places R b - mine r) 2)
+      ∙ omega (arith, own-size r l, length-replicate {A = ℕ} (places R b - mine r) 2, cut .product, own-fits r)
+
+  abbrev word : ℕ → List ℕ
+  word r = codedBlock R u r
+
+  word-is : (r : ℕ) → word r ≡ coded (table R i) (kb R) (m R) (z R i) (sys r)
+  unfolding codedBlock systematic filler sys mine
+  word-is r = rw size
+
+  parity-is : (r : ℕ) → blockHasParity R u r ≡ hasParity (table R i) (kb R) (m R) (z R i) (sys r)
+  unfolding blockHasParity systematic filler sys mine
+  parity-is r = rw size
+
+  has-parity : (r : ℕ) → r < c → hasParity (table R i) (kb R) (m R) (z R i) (sys r) ≡ true
+  unfolding someWithoutParity
+  has-parity r l =
+      let below : r < blocks R (length u) = subst (λ (n : ℕ). r < blocks R n) (sym size) l in
+      sym (parity-is r) ∙ not-false (blockHasParity R u r) (none-any (blocks R (length u)) (λ k. not (blockHasParity R u k)) parity r below)
+
+  -- ---- the radio bits
+
+  abbrev e : ℕ
+  e = blockShare R (length block) nl qm g
+
+  f : ℕ → List ℕ
+  f r = matched (word r) e
+
+  block-is : (r : ℕ) → blockSent R u nl qm g r ≡ f r
+  unfolding f blockSent share bitsOf symbolPlaces placesOf blockShare blockCount
+  block-is r = rw size
+
+  f-size : (r : ℕ) → length (f r) ≡ e
+  unfolding f matched
+  f-size r = length-list e (λ k. getD (kept (word r)) (k % length (kept (word r))) 0)
+
+  f-joined : (n : ℕ) → length (joined n f) ≡ n * e
+  unfolding joined
+  f-joined zero = sym (zero-mul e)
+  f-joined (suc n) = length-append (joined n f) (f n) ∙ omega (arith, f-joined n, f-size n, suc-mul n e)
+
+  sent-is : sent R block nl qm g ≡ joined c f ++ replicate (g - c * e) 0
+  unfolding sent padded
+  sent-is =
+      let front : joined (blocks R (length u)) (blockSent R u nl qm g) ≡ joined c f =
+      ap (λ (n : ℕ). joined (blocks R n) (blockSent R u nl qm g)) size ∙ joined-same (blockSent R u nl qm g) f c (λ r l. block-is r) in
+      ap (λ (l : List ℕ). l ++ replicate (g - length l) 0) front ∙ ap (λ (n : ℕ). joined c f ++ replicate (g - n) 0) (f-joined c)
+
+  block-stretch : (r : ℕ) → r < c → take e (drop (r * e) (sent R block nl qm g)) ≡ f r
+  block-stretch r l =
+      let part = joined-part f c r (replicate (g - c * e) 0) l in
+      ap (λ (s : List ℕ). take e (drop (r * e) s)) sent-is
+      ∙ ap₂ (λ (x y : ℕ). take x (drop y (joined c f ++ replicate (g - c * e) 0))) (sym (f-size r)) (sym (f-joined r)) ∙ part
+
+  zeros-last : drop (c * e) (sent R block nl qm g) ≡ replicate (g - c * e) 0
+  zeros-last = ap (drop (c * e)) sent-is ∙ drop-at (joined c f) (replicate (g - c * e) 0) (c * e) (f-joined c)
+
+  word-coded : (r : ℕ) → r < c → Word R (length block) (own R u r) (word r)
+  unfolding blockPlaces blockSize mine sys
+  word-coded r l =
+      record {
+        systematic = ap (take (places R b)) (word-is r)
+            ∙ ap (λ (n : ℕ). take n (coded (table R i) (kb R) (m R) (z R i) (sys r))) (cut .product)
+            ∙ coded-take (kb R) (m R) (z R i) (sys r) (sys-size r l) (table R i)
+            ∙ ap (λ (n : ℕ). own R u r ++ replicate (places R b - n) 2) (sym (own-size r l));
+        long = ap length (word-is r) ∙ coded-length (kb R) (m R) (z R i) (sys r) (sys-size r l) (table R i)
+            ∙ omega (arith, cut .product, add-mul (kb R) (m R) (z R i));
+        parity = λ p h.
+            subst (λ (w : List ℕ). getD w p 0 < 2) (sym (word-is r))
+            (coded-bits (kb R) (m R) (z R i) (sys r) (sys-size r l) (table R i) p (omega (arith, cut .product)));
+        checked = ap (checks (table R i) (m R) (kb R + m R) (z R i)) (word-is r)
+            ∙ coded-checks (kb R) (m R) (z R i) (sys r) (sys-size r l) (table R i) (has-parity r l);
+      }
+
+  pub steps : Steps R block nl qm g (sent R block nl qm g)
+  unfolding blockCount blockBits transport attached mine ownStart f
+  steps =
+      record {
+        transport = transport block;
+        appended = refl;
+        transported = size;
+        carried = own-size;
+        all-carried = ap (λ (n : ℕ). ownStart R n c) size ∙ cut .own-sum ∙ sym size;
+        word = word;
+        coded = word-coded;
+        stretch = block-stretch;
+        rest = zeros-last;
+        long = sent-length R block nl qm g;
+        single = sent-bits R block nl qm g;
+      }
+
+  -- ---- no other bits do
+
+  -- a word of the own bits is the coded block
+  word-only : (r : ℕ) (w : List ℕ) → r < c → Word R (length block) (own R u r) w → w ≡ word r
+  unfolding blockPlaces blockSize mine sys
+  word-only r w l h =
+      let front : take (kb R * z R i) w ≡ sys r =
+      ap (λ (n : ℕ). take n w) (sym (cut .product)) ∙ h .systematic ∙ ap (λ (n : ℕ). own R u r ++ replicate (places R b - n) 2) (own-size r l) in
+      coded-unique (kb R) (m R) (z R i) (sys r) (sys-size r l) (table R i)
+      (table-stairs R (plan-passed R (length block) taken .0) i (cut .size)) w
+      (h .long ∙ omega (arith, cut .product, add-mul (kb R) (m R) (z R i))) front (λ p k. h .parity p (omega (arith, cut .product))) (h .checked) .1
+      ∙ sym (word-is r)
+
+  shares : (n : ℕ) → sumTo n (λ (r : ℕ). e) ≡ n * e
+  unfolding sumTo
+  shares zero = sym (zero-mul e)
+  shares (suc n) = omega (arith, shares n, suc-mul n e)
+
+  pub steps-only : (bits : List ℕ) → Steps R block nl qm g bits → bits ≡ sent R block nl qm g
+  unfolding blockCount transport attached f
+  steps-only bits s =
+      let own-word : (r : ℕ) → r < c → s .word r ≡ word r =
+      λ r l. word-only r (s .word r) l (subst (λ (v : List ℕ). Word R (length block) (own R v r) (s .word r)) (s .appended) (s .coded r l)) in
+      let each : (r : ℕ) → r < c → take e (drop (sumTo r (λ (k : ℕ). e)) bits) ≡ f r =
+      λ r l. ap (λ (n : ℕ). take e (drop n bits)) (shares r) ∙ s .stretch r l ∙ ap (λ (w : List ℕ). matched w e) (own-word r l) in
+      sym (take-append-drop (c * e) bits)
+      ∙ ap₂ (λ (x y : List ℕ). x ++ y)
+      (ap (λ (n : ℕ). take n bits) (sym (shares c)) ∙ sym (joined-cut (λ (r : ℕ). e) bits c)
+      ∙ joined-same (λ r. take e (drop (sumTo r (λ (k : ℕ). e)) bits)) f c each)
+      (s .rest)
+      ∙ sym sent-is

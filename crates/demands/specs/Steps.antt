@@ -1,0 +1,59 @@
+-- What the second demand says of sending: the six steps of document 01, "From block to radio bits", as facts of the bits that a transport block is
+-- sent as. R is the profile's record; nothing is searched for here.
+use mathlib.Core.Path.{_≡_}
+use mathlib.Core.Bool.{true}
+use mathlib.Core.List.{List, _++_}
+use Prim.Native.Nat.{ℕ, _+_, _-_, _*_, _/_, _≤_, _<_}
+use lib.ListN.{length, getD, take, drop, replicate}
+use Rattle.bits.specs.Bits.{AreBits, digits, unpacked}
+use Rattle.checksum.specs.Crc.{checksum, gen24A}
+use Rattle.profile.specs.Record.{kb, m, z, table}
+use Rattle.profile.specs.Plan.{blockBits, blocks, ownBits, sizeOf, places}
+use Rattle.parity.specs.Matrix.{checks}
+use Rattle.coding.specs.Cutting.{ownStart, own}
+use Rattle.coding.specs.Matching.{matched}
+
+-- C and K of a block of so many octets, which of the record's sizes is chosen for it, and "E = N_L·Q_m·floor(G'/C)"
+unfoldable pub blockCount : List ℕ → ℕ → ℕ
+blockCount R octets = blocks R (blockBits octets)
+
+unfoldable pub blockPlaces : List ℕ → ℕ → ℕ
+blockPlaces R octets = places R (blockBits octets)
+
+unfoldable pub blockSize : List ℕ → ℕ → ℕ
+blockSize R octets = sizeOf R (blockBits octets)
+
+unfoldable pub blockShare : List ℕ → ℕ → ℕ → ℕ → ℕ → ℕ
+blockShare R octets nl qm g = nl * qm * (g / (nl * qm) / blockCount R octets)
+
+-- 3 and 4. w is the coded block of these own bits: "K systematic places and then m·z parity bits. It must check with filler read as 0. Filler places
+-- stay marked."
+pub record Word (R : List ℕ) (octets : ℕ) (mine w : List ℕ) : Type 0 where
+  pub systematic : take (blockPlaces R octets) w ≡ mine ++ replicate (blockPlaces R octets - length mine) 2
+  pub long : length w ≡ blockPlaces R octets + m R * z R (blockSize R octets)
+  pub parity : (p : ℕ) → blockPlaces R octets ≤ p → getD w p 0 < 2
+  pub checked : checks (table R (blockSize R octets)) (m R) (kb R + m R) (z R (blockSize R octets)) w ≡ true
+
+pub record Steps (R block : List ℕ) (nl qm g : ℕ) (bits : List ℕ) : Type 0 where
+  -- 1. "Append the 24 checksum bits of gCRC24A; B = A + 24"
+  pub transport : List ℕ
+  pub appended : transport ≡ unpacked block ++ digits 24 (checksum 24 gen24A (unpacked block))
+  pub transported : length transport ≡ 8 * length block + 24
+  -- 2. "The first B mod C blocks carry ceil(B/C) bits in order, the others floor(B/C)", and together they carry all
+  pub carried : (r : ℕ) → r < blockCount R (length block)
+      → length (own R transport r) ≡ ownBits (8 * length block + 24) (blockCount R (length block)) r
+  pub all-carried : ownStart R (length transport) (blockCount R (length block)) ≡ length transport
+  -- 3 and 4, of each block
+  pub word : ℕ → List ℕ
+  pub coded : (r : ℕ) → r < blockCount R (length block) → Word R (length block) (own R transport r) (word r)
+  -- 5. "Every block is given E .. bits"; 6. they "are its coded places in order from the first, filler skipped, starting again at the first after the
+  -- last", and go into its own stretch
+  pub stretch : (r : ℕ) → r < blockCount R (length block)
+      → take (blockShare R (length block) nl qm g) (drop (r * blockShare R (length block) nl qm g) bits)
+      ≡ matched (word r) (blockShare R (length block) nl qm g)
+  -- 5. "The G − C·E places left at the end hold 0."
+  pub rest : drop (blockCount R (length block) * blockShare R (length block) nl qm g) bits
+      ≡ replicate (g - blockCount R (length block) * blockShare R (length block) nl qm g) 0
+  -- and they are G, each 0 or 1
+  pub long : length bits ≡ g
+  pub single : AreBits bits

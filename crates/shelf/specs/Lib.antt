@@ -1,0 +1,5 @@
+pub mod Shelf
+pub mod Lookup
+pub mod Promises
+pub mod Isolation
+pub mod steps
