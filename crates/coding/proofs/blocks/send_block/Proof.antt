@@ -24,7 +24,7 @@ match-filled-requires c κs =
     let filled = word-filled R (now (a .bits)) (a .plan) k (st .pre .0 .single) (a .start) (a .own) (st .pre .1) (st .pre .2) (code .last .1 .1 .1 .1 .1 .0) (code .ensures) in
     let room = word-room R (now (a .bits)) (a .plan) k in
     let tail : a .plan .places < length (code .last .1 .1 .1 .1 .1 .0) = omega (arith, room, code .ensures .size) in
-    (filled, tail, st .pre .4)
+    (filled, tail, omega (arith, st .pre .4))
 
 same-length : tie.Need-same-length
 same-length c = search needs
