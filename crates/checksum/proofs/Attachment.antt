@@ -17,7 +17,8 @@ use Rattle.bits.proofs.Lists.{bits-drop, sets-append}
 use Rattle.bits.proofs.Digits.{length-digits, digits-bits, digit-over, bit-times, number-digits, digits-number}
 use Rattle.bits.proofs.Octets.{length-unpacked}
 use Rattle.bits.proofs.Xor.{xor-zero}
-use Rattle.checksum.specs.Crc.{reduce, divideOn, remainder, checksum, attached, checks}
+use Rattle.checksum.specs.Crc.{reduce, divideOn, remainder, checksum, attached}
+use Rattle.checksum.specs.steps.Testing.{checks}
 use Rattle.checksum.proofs.Division.{reduce-small, divide-append, divide-lt, divide-xor}
 
 module _ (w g : ℕ) where

@@ -1,12 +1,10 @@
 -- The checksums of section 5.1.1 of 5G.212, for any width w and any generator D^w + g, where g, below 2^w, holds its digits without the
 -- top one. A number stands for the polynomial over GF(2) that has its binary digits as coefficients, so that a difference is `bitXor`.
-use mathlib.Core.Bool.{Bool}
 use mathlib.Core.List.{List, [], _∷_, _++_}
-use Prim.Native.Nat.{ℕ, _+_, _-_, _*_, _/_, _%_, _^_}
+use Prim.Native.Nat.{ℕ, _+_, _*_, _/_, _%_, _^_}
 use lib.Bits.{bitXor}
-use lib.Dec.{eqb}
-use lib.ListN.{length, take, drop, replicate}
-use Rattle.bits.specs.Bits.{digits, number}
+use lib.ListN.{replicate}
+use Rattle.bits.specs.Bits.{digits}
 
 -- one step of the long division: x, of w + 1 digits, less the generator where x has the digit of D^w
 unfoldable pub reduce : ℕ → ℕ → ℕ → ℕ
@@ -28,10 +26,6 @@ checksum w g a = remainder w g (a ++ replicate w 0)
 -- the bits after attachment, b_0 .. b_(B-1): the a_k, and then the checksum's w bits
 unfoldable pub attached : ℕ → ℕ → List ℕ → List ℕ
 attached w g a = a ++ digits w (checksum w g a)
-
--- the receiver's test, recompute and compare: the last w bits are the checksum of those before them
-unfoldable pub checks : ℕ → ℕ → List ℕ → Bool
-checks w g b = eqb (checksum w g (take (length b - w) b)) (number (drop (length b - w) b))
 
 -- "The generators of 5.1.1 without their top bit are 864CFB (24A), 1021 (16) and 9B (8)"
 abbrev pub gen24A : ℕ

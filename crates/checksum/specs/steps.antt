@@ -1,2 +1,3 @@
 -- What inner contracts cite; no reader of the promises needs it.
 pub mod Register
+pub mod Testing

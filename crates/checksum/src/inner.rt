@@ -5,7 +5,8 @@ ghost use Prim.Native.Nat.{_+_, _*_, _≤_};
 ghost use lib.ListN.{length};
 ghost use lib.Seq.{sets};
 ghost use Rattle.bits.specs.Bits.{AreBits, unpacked};
-ghost use Rattle.checksum.specs.Crc.{checksum, attached, checks};
+ghost use Rattle.checksum.specs.Crc.{checksum, attached};
+ghost use Rattle.checksum.specs.steps.Testing.{checks};
 ghost use Rattle.checksum.specs.steps.Register.{Generator};
 
 // The checksum of packed octets.

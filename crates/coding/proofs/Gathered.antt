@@ -15,7 +15,7 @@ use Rattle.bits.proofs.Lists.{bits-take, bits-drop, length-part}
 use Rattle.bits.proofs.Ranges.{none-any}
 use Rattle.bits.proofs.Sums.{sum-same}
 use Rattle.profile.specs.Record.{kb, m, z, table}
-use Rattle.profile.specs.Plan.{blockBits, blocks, ownBits, sizeOf, places, filler}
+use Rattle.profile.specs.Plan.{blockBits, blocks, ownBits, whichSize, places, filler}
 use Rattle.profile.proofs.Plans.{Cut, plan-cut}
 use Rattle.coding.specs.Cutting.{ownStart, own, systematic}
 use Rattle.coding.specs.Blocks.{codedBlock, sendable}
@@ -58,11 +58,11 @@ module _ (R : List ℕ) (octets nl qm : ℕ) (bits : List ℕ) (h : Heard R octe
   own-fits r = omega (arith, cut .own-most r, cut .room)
 
   -- N is the block's own bits and its parity bits
-  sendable-is : (r : ℕ) → sendable R b r ≡ mine r + m R * z R (sizeOf R b)
+  sendable-is : (r : ℕ) → sendable R b r ≡ mine r + m R * z R (whichSize R b)
   unfolding sendable filler
-  sendable-is r = omega (arith, cut .product, add-mul (kb R) (m R) (z R (sizeOf R b)), own-fits r)
+  sendable-is r = omega (arith, cut .product, add-mul (kb R) (m R) (z R (whichSize R b)), own-fits r)
 
-  pub has-room : (r : ℕ) → r < c → mine r + m R * z R (sizeOf R b) ≤ given r
+  pub has-room : (r : ℕ) → r < c → mine r + m R * z R (whichSize R b) ≤ given r
   unfolding someWithoutRoom
   has-room r l = omega (arith, sendable-is r, ltb-false (given r) (sendable R b r) (none-any c (λ i. ltb (given i) (sendable R b i)) (h .room) r l))
 
@@ -167,7 +167,7 @@ module _ (R : List ℕ) (octets nl qm : ℕ) (bits : List ℕ) (h : Heard R octe
           let within : suc r ≤ c = omega arith in
           ap length (own-part r) ∙ length-part (mine r) (ownStart R b r) u (omega (arith, size, cut .own-sum, sum-mono mine (suc r) c within))
 
-      filled-size : (r : ℕ) → r < c → length (own R u r ++ replicate (filler R (length u) r) 2) ≡ kb R * z R (sizeOf R (length u))
+      filled-size : (r : ℕ) → r < c → length (own R u r ++ replicate (filler R (length u) r) 2) ≡ kb R * z R (whichSize R (length u))
       unfolding filler
       filled-size r l =
           rw size
@@ -177,7 +177,7 @@ module _ (R : List ℕ) (octets nl qm : ℕ) (bits : List ℕ) (h : Heard R octe
       own-begins : (r : ℕ) → r < c → take (length (own R u r)) (blockSent R u nl qm g r) ≡ own R u r
       unfolding blockSent codedBlock systematic
       own-begins r l =
-          front-own (table R (sizeOf R (length u))) (own R u r) (filler R (length u) r) (kb R) (m R) (z R (sizeOf R (length u)))
+          front-own (table R (whichSize R (length u))) (own R u r) (filler R (length u) r) (kb R) (m R) (z R (whichSize R (length u)))
           (λ k. subst (λ (s : List ℕ). getD s k 0 < 2) (sym (own-part r)) (bits-take (mine r) (drop (ownStart R b r) u) (bits-drop (ownStart R b r) u single) k))
           (filled-size r l) (share nl qm g (blocks R (length u)) r .0)
           (rw (own-size r l, size) (omega (arith, has-room r l)))

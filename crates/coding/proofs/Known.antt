@@ -11,7 +11,7 @@ use Rattle.bits.specs.Bits.{AreBits}
 use Rattle.bits.proofs.Answers.{when-done}
 use Rattle.bits.proofs.Ranges.{below-or, last-or}
 use Rattle.profile.specs.Record.{kb, m, t, z, table}
-use Rattle.profile.specs.Plan.{blockBits, blocks, sizeOf, places}
+use Rattle.profile.specs.Plan.{blockBits, blocks, whichSize, places}
 use Rattle.profile.specs.Promises.{judged}
 use Rattle.profile.specs.declared.Plan.{Plan}
 use Rattle.profile.proofs.Plans.{Cut, plan-passed, plan-cut}
@@ -31,8 +31,8 @@ pub record Known (R bits : List ℕ) (p : Plan) : Type 0 where
   pub count : p .bits ≡ length bits
   pub blocks-is : p .blocks ≡ blocks R (length bits)
   pub places-is : p .places ≡ places R (length bits)
-  pub z-is : p .z ≡ z R (sizeOf R (length bits))
-  pub size-is : p .size ≡ sizeOf R (length bits)
+  pub z-is : p .z ≡ z R (whichSize R (length bits))
+  pub size-is : p .size ≡ whichSize R (length bits)
 
 pub known : (R bits : List ℕ) (p : Plan) → Ready R bits p → Known R bits p
 known R bits p r =
@@ -43,8 +43,8 @@ known R bits p r =
       count = r .plan .bits ∙ when-done _ _ _ (r .taken) ∙ b;
       blocks-is = r .plan .blocks ∙ when-done _ _ _ (r .taken) ∙ ap (blocks R) b;
       places-is = r .plan .places ∙ when-done _ _ _ (r .taken) ∙ ap (places R) b;
-      z-is = r .plan .z ∙ when-done _ _ _ (r .taken) ∙ ap (λ (n : ℕ). z R (sizeOf R n)) b;
-      size-is = r .plan .size ∙ when-done _ _ _ (r .taken) ∙ ap (sizeOf R) b;
+      z-is = r .plan .z ∙ when-done _ _ _ (r .taken) ∙ ap (λ (n : ℕ). z R (whichSize R n)) b;
+      size-is = r .plan .size ∙ when-done _ _ _ (r .taken) ∙ ap (whichSize R) b;
     }
 
 module _ (R bits : List ℕ) (p : Plan) (k : Known R bits p) where
@@ -55,10 +55,10 @@ module _ (R bits : List ℕ) (p : Plan) (k : Known R bits p) where
   places-product = k .places-is ∙ k .cut .product ∙ ap (λ (n : ℕ). kb R * n) (sym (k .z-is))
 
   pub shape-here : Shape (table R (p .size)) (m R) (kb R + m R) (p .z)
-  shape-here = rw (k .z-is, k .size-is) (table-shape R (k .taken) (sizeOf R (length bits)) (k .cut .size))
+  shape-here = rw (k .z-is, k .size-is) (table-shape R (k .taken) (whichSize R (length bits)) (k .cut .size))
 
   pub stairs-here : Staircase (table R (p .size)) (kb R) (m R)
-  stairs-here = rw (k .size-is) (table-stairs R (k .taken) (sizeOf R (length bits)) (k .cut .size))
+  stairs-here = rw (k .size-is) (table-stairs R (k .taken) (whichSize R (length bits)) (k .cut .size))
 
   -- the coded block is longer than its systematic places
   pub word-room : p .places < (kb R + m R) * p .z

@@ -15,7 +15,7 @@ use Rattle.bits.proofs.Lists.{same-equal, same-self, length-part}
 use Rattle.bits.proofs.Over.{none-over}
 use Rattle.bits.proofs.Ranges.{all-at, all-of, below-or, both, last-or}
 use Rattle.profile.specs.Record.{kb, m, z, table}
-use Rattle.profile.specs.Plan.{blockBits, blocks, ownBits, sizeOf, places, filler}
+use Rattle.profile.specs.Plan.{blockBits, blocks, ownBits, whichSize, places, filler}
 use Rattle.profile.specs.declared.Plan.{Plan}
 use Rattle.coding.specs.Cutting.{ownStart, own, systematic}
 use Rattle.coding.specs.Blocks.{blockHasParity, codedBlock}
@@ -135,7 +135,7 @@ module _ (R : List ℕ) (nl qm : ℕ) (bits : List ℕ) (p : Plan) (h : Hearing 
   room-here r n e l q d =
       let k = known-heard in
       let here : ownBits (p .bits) (p .blocks) r ≡ ownBits (blockBits o) (blocks R (blockBits o)) r = ap₂ (λ (x y : ℕ). ownBits x y r) bits-is c-is in
-      let size : z R (sizeOf R (blockBits o)) ≡ p .z = ap (λ (n : ℕ). z R (sizeOf R n)) (sym t-length) ∙ sym (k .z-is) in
+      let size : z R (whichSize R (blockBits o)) ≡ p .z = ap (λ (n : ℕ). z R (whichSize R n)) (sym t-length) ∙ sym (k .z-is) in
       let shares : given r ≡ share nl qm (length bits) (blocks R (blockBits o)) r .0 = ap (λ (n : ℕ). share nl qm (length bits) (blocks R n) r .0) t-length in
       let room = has-room R o nl qm bits (h .heard) r (omega (arith, c-is)) in
       let product = places-product R t p k in

@@ -14,7 +14,8 @@ use Rattle.bits.proofs.Digits.{length-digits, digits-bits, digits-number, numbe
 use Rattle.bits.proofs.Lists.{bits-take, same-equal, same-self}
 use Rattle.bits.proofs.Octets.{length-packed, length-unpacked, unpacked-bits, packed-front, packed-octets, packed-unpacked, unpacked-packed}
 use Rattle.bits.proofs.Ranges.{any-of, first-some, both}
-use Rattle.checksum.specs.Crc.{attached, checksum, checks, gen24A}
+use Rattle.checksum.specs.Crc.{attached, checksum, gen24A}
+use Rattle.checksum.specs.steps.Testing.{checks}
 use Rattle.checksum.proofs.Attachment.{checks-sound, checks-complete}
 use Rattle.profile.specs.Plan.{blockBits}
 use Rattle.coding.specs.Transport.{transport}

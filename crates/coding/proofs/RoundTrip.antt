@@ -19,11 +19,11 @@ use Rattle.bits.proofs.Over.{bits-not-over}
 use Rattle.bits.proofs.Ranges.{equal-or, both}
 use Rattle.bits.proofs.Sums.{sum-same}
 use Rattle.profile.specs.Record.{kb, m, z, table, within}
-use Rattle.profile.specs.Plan.{blockBits, blocks, ownBits, sizeOf, filler}
+use Rattle.profile.specs.Plan.{blockBits, blocks, ownBits, whichSize, filler}
 use Rattle.profile.specs.Promises.{planNumber}
 use Rattle.profile.proofs.Plans.{plan-passed, plan-cut}
 use Rattle.profile.proofs.Answers.{judged-passed}
-use Rattle.parity.specs.Coded.{withParity, chosen, coded}
+use Rattle.parity.specs.Coded.{withParity, checksWith, coded}
 use Rattle.coding.specs.Transport.{transport}
 use Rattle.coding.specs.Cutting.{ownStart, own, systematic}
 use Rattle.coding.specs.Blocks.{codedBlock, someWithoutParity}
@@ -32,6 +32,7 @@ use Rattle.coding.specs.Matching.{kept, listTo, matched}
 use Rattle.coding.specs.Joining.{blockSent, joined, padded, sent}
 use Rattle.coding.specs.Receiving.{sentAs, someSentAs, received, someWithoutRoom}
 use Rattle.coding.specs.Promises.{tooFewPlaces, sendNumber, notOctets, receiveNumber, Sent, Received}
+use Rattle.coding.specs.RoundTrip.{Roomy, SentAs}
 use Rattle.coding.specs.steps.Sending.{takenNumber}
 use Rattle.coding.specs.steps.Receiving.{Heard, Decided}
 use Rattle.coding.proofs.Answers.{send-first, send-last}
@@ -41,22 +42,6 @@ use Rattle.coding.proofs.Received.{block-only, some-from, received-is, 
 use Rattle.coding.proofs.Shares.{shares-fit, allocated}
 use Rattle.coding.proofs.Taken.{taken-passed}
 use Rattle.coding.proofs.Transported.{transport-bits}
-
--- "Take an accepted profile, block length and allocation in which every code block has room for all its coded bits that are not filler"
-pub record Roomy (R : List ℕ) (octets nl qm g : ℕ) : Type 0 where
-  pub taken : planNumber R octets ≡ 0
-  pub allocation : misallocated nl qm g ≡ false
-  pub enough : tooFewPlaces R octets nl qm g ≡ false
-  pub room : someWithoutRoom R octets nl qm g ≡ false
-
--- a transport block is sent as these bits: a call of `send` that keeps its promise answers 0 and leaves them in front
-pub record SentAs (R : List ℕ) (nl qm : ℕ) (block bits : List ℕ) : Type 0 where
-  pub out : List ℕ
-  pub result : Written
-  pub exit : List ℕ
-  pub promise : Sent R block nl qm (length bits) out result exit
-  pub done : result .number ≡ 0
-  pub bits-are : take (length bits) exit ≡ bits
 
 -- ---- what is sent are G bits, of any block and in any allocation
 
@@ -106,7 +91,7 @@ matched-bits s e h = list-bits e (λ k. getD (kept s) (k % length (kept s)) 0) (
 coded-marks : (T : List ℕ) (kb m z : ℕ) (sys : List ℕ) → AreMarks sys → AreMarks (coded T kb m z sys)
 unfolding coded withParity
 coded-marks T kb m z sys h =
-    let n = firstTo (2 ^ (m * z)) (chosen T kb m z sys) in
+    let n = firstTo (2 ^ (m * z)) (checksWith T kb m z sys) in
     marks-append sys (digits (m * z) n) h (marks-bits (digits (m * z) n) (digits-bits (m * z) n))
 
 own-bits : (R bits : List ℕ) (r : ℕ) → AreBits bits → AreBits (own R bits r)
@@ -118,7 +103,7 @@ own-bits R bits r h =
 block-bits : (R bits : List ℕ) (nl qm g r : ℕ) → AreBits bits → AreBits (blockSent R bits nl qm g r)
 unfolding blockSent codedBlock systematic
 block-bits R bits nl qm g r h =
-    let i = sizeOf R (length bits) in
+    let i = whichSize R (length bits) in
     let n = filler R (length bits) r in
     let sys = own R bits r ++ replicate n 2 in
     matched-bits (codedBlock R bits r) (share nl qm g (blocks R (length bits)) r .0)

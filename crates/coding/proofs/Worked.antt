@@ -7,9 +7,10 @@ use Rattle.bits.specs.Counts.{placesOf, bitsOf}
 use Rattle.bits.specs.Ranges.{sumTo, parityTo, allTo, anyTo, firstTo}
 use Rattle.checksum.specs.Crc.{reduce, divideOn, remainder, checksum, attached}
 use Rattle.profile.specs.Record.{kb, m, t, z, offset, tableSize, table, entry}
-use Rattle.profile.specs.Plan.{ceil, kmax, blocks, ownBits, sizeFor, sizeOf, places, filler}
+use Rattle.profile.specs.Plan.{ceil, kmax, blocks, ownBits, whichSizeFor, whichSize, places, filler}
 use Rattle.parity.specs.Matrix.{square, spread, bitAt, rowEven, checks}
-use Rattle.parity.specs.Coded.{withParity, chosen, coded}
+use Rattle.parity.specs.Coded.{withParity, checksWith, coded}
+use Rattle.coding.specs.Worked.{toy, sixteen}
 use Rattle.coding.specs.Transport.{transport}
 use Rattle.coding.specs.Cutting.{ownStart, own, systematic}
 use Rattle.coding.specs.Blocks.{codedBlock}
@@ -17,21 +18,12 @@ use Rattle.coding.specs.Allocation.{symbolPlaces, share}
 use Rattle.coding.specs.Matching.{kept, listTo, matched}
 use Rattle.coding.specs.Joining.{blockSent, joined, padded, sent}
 
-unfoldable pub toy : List ℕ
-toy =
-    0x00 ∷ 0x01 ∷ 0x00 ∷ 0x03 ∷ 0x00 ∷ 0x01 ∷ 0x00 ∷ 0x02 ∷ 0x00 ∷ 0x0A
-    ∷ 0x00 ∷ 0x01 ∷ 0x00 ∷ 0xFF ∷ 0x01 ∷ 0x00 ∷ 0x00 ∷ 0x00 ∷ 0xFF ∷ 0x01 ∷ 0xFF ∷ 0x00 ∷ []
-
 pub record Case : Type 0 where
   pub block : List ℕ
   pub nl : ℕ
   pub qm : ℕ
   pub g : ℕ
   pub due : List ℕ
-
-unfoldable pub sixteen : List ℕ
-sixteen =
-    0x00 ∷ 0x00 ∷ 0x00 ∷ 0x7B ∷ 0xB7 ∷ 0x00 ∷ 0x7B ∷ 0xB7 ∷ 0x7B ∷ 0x00 ∷ 0xCC ∷ 0x00 ∷ 0xCC ∷ 0xCC ∷ 0xB7 ∷ 0xCC ∷ []
 
 unfoldable pub cases : List Case
 cases =
@@ -46,5 +38,5 @@ abbrev pub due : Case → List ℕ
 due c = c .due
 
 pub worked : map answer cases ≡ map due cases
-unfolding toy sixteen cases digits readOn number unpacked numberAt placesOf bitsOf sumTo parityTo allTo anyTo firstTo reduce divideOn remainder checksum attached kb m t z offset tableSize table entry ceil kmax blocks ownBits sizeFor sizeOf places filler square spread bitAt rowEven checks withParity chosen coded transport ownStart own systematic codedBlock symbolPlaces share kept listTo matched blockSent joined padded sent
+unfolding toy sixteen cases digits readOn number unpacked numberAt placesOf bitsOf sumTo parityTo allTo anyTo firstTo reduce divideOn remainder checksum attached kb m t z offset tableSize table entry ceil kmax blocks ownBits whichSizeFor whichSize places filler square spread bitAt rowEven checks withParity checksWith coded transport ownStart own systematic codedBlock symbolPlaces share kept listTo matched blockSent joined padded sent
 worked = refl

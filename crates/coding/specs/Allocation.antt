@@ -15,6 +15,6 @@ misallocated nl qm g = not (within 1 4 nl) || not (eqb qm 2 || eqb qm 4 || eqb q
 unfoldable pub symbolPlaces : ℕ → ℕ → ℕ → SymbolPlaces
 symbolPlaces nl qm g = placesOf nl qm (record { 0 = g })
 
--- "Every block is given E = N_L·Q_m·floor(G'/C) bits": block r's share
+-- "Every block is given E = N_L·Q_m·floor(G'/C) bits": block r's share. The index decides nothing here; a later request gives some blocks more.
 unfoldable pub share : ℕ → ℕ → ℕ → ℕ → ℕ → CodedBits
 share nl qm g c r = bitsOf nl qm (record { 0 = symbolPlaces nl qm g .0 / c })

@@ -6,4 +6,6 @@ pub mod Matching
 pub mod Joining
 pub mod Receiving
 pub mod Promises
+pub mod RoundTrip
+pub mod Worked
 pub mod steps

@@ -1,4 +1,5 @@
--- What the public calls promise, for all octets, lengths and numbers.
+-- What the public calls promise, for all octets, lengths and numbers. `Written` has a number and the count written; out' is the output after the
+-- call. What is lent for reading has no after.
 use mathlib.Core.Path.{_≡_}
 use mathlib.Core.Bool.{Bool, not, _&&_, _||_}
 use mathlib.Core.List.{List, [], _∷_, _++_}
@@ -23,8 +24,11 @@ use Rattle.coding.specs.Receiving.{someSentAs, received, someWithoutRoom
 unfoldable pub unmatchable : List ℕ → ℕ → Bool
 unmatchable coded e = ltb 65536 e || (ltb 0 e && eqb (length (kept coded)) 0)
 
+abbrev pub matchConditions : List ℕ → ℕ → ℕ → List (ℕ × Bool)
+matchConditions coded e room = (8, unmatchable coded e) ∷ (11, ltb room e) ∷ (12, someOver 2 coded) ∷ []
+
 unfoldable pub matchNumber : List ℕ → ℕ → ℕ → ℕ
-matchNumber coded e room = answered ((8, unmatchable coded e) ∷ (11, ltb room e) ∷ (12, someOver 2 coded) ∷ [])
+matchNumber coded e room = answered (matchConditions coded e room)
 
 pub record RateMatched (coded : List ℕ) (e : ℕ) (out : List ℕ) (r : Written) (out' : List ℕ) : Type 0 where
   pub number : r .number ≡ matchNumber coded e (length out)
@@ -37,10 +41,9 @@ pub record RateMatched (coded : List ℕ) (e : ℕ) (out : List ℕ) (r : Writte
 unfoldable pub tooFewPlaces : List ℕ → ℕ → ℕ → ℕ → ℕ → Bool
 tooFewPlaces R octets nl qm g = ltb (symbolPlaces nl qm g .0) (blocks R (blockBits octets))
 
-unfoldable pub sendNumber : List ℕ → List ℕ → ℕ → ℕ → ℕ → ℕ → ℕ
-sendNumber R block nl qm g room =
-    answered
-    ((5, not (wellFormed R))
+abbrev pub sendConditions : List ℕ → List ℕ → ℕ → ℕ → ℕ → ℕ → List (ℕ × Bool)
+sendConditions R block nl qm g room =
+    (5, not (wellFormed R))
     ∷ (6, not (staircases R))
     ∷ (7, not (within 1 2048 (length block)))
     ∷ (8, misallocated nl qm g)
@@ -48,7 +51,10 @@ sendNumber R block nl qm g room =
     ∷ (10, tooFewPlaces R (length block) nl qm g)
     ∷ (11, ltb room g)
     ∷ (15, someWithoutParity R block)
-    ∷ [])
+    ∷ []
+
+unfoldable pub sendNumber : List ℕ → List ℕ → ℕ → ℕ → ℕ → ℕ → ℕ
+sendNumber R block nl qm g room = answered (sendConditions R block nl qm g room)
 
 pub record Sent (R block : List ℕ) (nl qm g : ℕ) (out : List ℕ) (r : Written) (out' : List ℕ) : Type 0 where
   pub number : r .number ≡ sendNumber R block nl qm g (length out)
@@ -61,10 +67,9 @@ pub record Sent (R block : List ℕ) (nl qm g : ℕ) (out : List ℕ) (r : Writt
 unfoldable pub notOctets : ℕ → Bool
 notOctets a = not (eqb (a % 8) 0 && within 1 2048 (a / 8))
 
-unfoldable pub receiveNumber : List ℕ → ℕ → ℕ → ℕ → List ℕ → ℕ → ℕ
-receiveNumber R a nl qm bits room =
-    answered
-    ((5, not (wellFormed R))
+abbrev pub receiveConditions : List ℕ → ℕ → ℕ → ℕ → List ℕ → ℕ → List (ℕ × Bool)
+receiveConditions R a nl qm bits room =
+    (5, not (wellFormed R))
     ∷ (6, not (staircases R))
     ∷ (7, notOctets a)
     ∷ (8, misallocated nl qm (length bits))
@@ -74,7 +79,10 @@ receiveNumber R a nl qm bits room =
     ∷ (12, someOver 1 bits)
     ∷ (13, someWithoutRoom R (a / 8) nl qm (length bits))
     ∷ (14, not (someSentAs R (a / 8) nl qm bits))
-    ∷ [])
+    ∷ []
+
+unfoldable pub receiveNumber : List ℕ → ℕ → ℕ → ℕ → List ℕ → ℕ → ℕ
+receiveNumber R a nl qm bits room = answered (receiveConditions R a nl qm bits room)
 
 pub record Received (R : List ℕ) (a nl qm : ℕ) (bits out : List ℕ) (r : Written) (out' : List ℕ) : Type 0 where
   pub number : r .number ≡ receiveNumber R a nl qm bits (length out)

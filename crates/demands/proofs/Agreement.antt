@@ -16,6 +16,9 @@ use Rattle.parity.specs.Promises.{BlockCoded, WordChecked}
 use Rattle.parity.proofs.Agreement.{block-coded-agree, word-checked-agree}
 use Rattle.coding.specs.Promises.{RateMatched, Sent, Received}
 use Rattle.coding.proofs.Agreement.{rate-match-agree, send-agree, receive-agree}
+use Rattle.advice.specs.declared.Least.{Least}
+use Rattle.advice.specs.Promises.{LeastRoom}
+use Rattle.advice.proofs.Agreement.{least-agree}
 use Rattle.shelf.specs.Lookup.{lookupNumber}
 use Rattle.shelf.specs.Promises.{LookedUp, HostedSent, HostedReceived}
 use Rattle.shelf.proofs.Agreement.{lookup-number-agree, lookup-agree, hosted-send-agree, hosted-receive-agree}
@@ -60,6 +63,9 @@ pub receive : {R : List ℕ} {a nl qm : ℕ} {bits out : List ℕ} {r r' : Writt
 receive a b = receive-agree a b
 
 -- ---- shelf::lookup_number, shelf::lookup (a stretch is its octets and its place), shelf::hosted_send, shelf::hosted_receive
+
+pub least-bits : {R : List ℕ} {octets nl qm : ℕ} {r r' : Least} → LeastRoom R octets nl qm r → LeastRoom R octets nl qm r' → r ≡ r'
+least-bits a b = least-agree a b
 
 pub lookup-number : (private public : List ℕ) (t p : ℕ) {r r' : ℕ} → r ≡ lookupNumber private public t p → r' ≡ lookupNumber private public t p → r ≡ r'
 lookup-number private public t p a b = lookup-number-agree private public t p a b

@@ -14,15 +14,15 @@ use Rattle.bits.specs.Numbers.{whenDone}
 use Rattle.bits.specs.declared.number.Written.{Written}
 use Rattle.bits.proofs.Answers.{Refusals, when-refused}
 use Rattle.checksum.specs.declared.Sum.{Sum}
-use Rattle.checksum.specs.Promises.{otherWidth, bitsNumber, OfBits, octetsNumber, OfOctets}
+use Rattle.checksum.specs.Promises.{bitsConditions, bitsNumber, OfBits, octetsConditions, octetsNumber, OfOctets}
 use Rattle.profile.specs.declared.Plan.{Plan}
 use Rattle.profile.specs.Record.{kb, m, within, wellFormed}
 use Rattle.profile.specs.Staircase.{staircases}
 use Rattle.profile.specs.Plan.{blockBits, blocks}
-use Rattle.profile.specs.Promises.{judged, planNumber, Planned}
+use Rattle.profile.specs.Promises.{judgeConditions, judged, planConditions, planNumber, Planned}
 use Rattle.parity.specs.declared.Verdict.{Verdict}
 use Rattle.parity.specs.Coded.{hasParity, coded}
-use Rattle.parity.specs.Promises.{tableFor, unfit, codeNumber, BlockCoded, checkNumber, WordChecked}
+use Rattle.parity.specs.Promises.{tableFor, unfit, codeConditions, codeNumber, BlockCoded, checkConditions, checkNumber, WordChecked}
 use Rattle.parity.proofs.Answers.{fits}
 use Rattle.parity.proofs.Coded.{coded-length}
 use Rattle.coding.specs.Allocation.{misallocated}
@@ -30,151 +30,84 @@ use Rattle.coding.specs.Blocks.{someWithoutParity}
 use Rattle.coding.specs.Matching.{kept, matched}
 use Rattle.coding.specs.Joining.{sent}
 use Rattle.coding.specs.Receiving.{someSentAs, received, someWithoutRoom}
-use Rattle.coding.specs.Promises.{unmatchable, matchNumber, RateMatched, tooFewPlaces, sendNumber, Sent, notOctets, receiveNumber, Received}
+use Rattle.coding.specs.Promises.{matchConditions, matchNumber, RateMatched, sendConditions, sendNumber, Sent, receiveConditions, receiveNumber, Received}
 use Rattle.coding.proofs.Places.{length-list}
 use Rattle.coding.proofs.Received.{nth-length}
 use Rattle.coding.proofs.RoundTrip.{sent-length}
+use Rattle.advice.specs.declared.Least.{Least}
+use Rattle.advice.specs.Promises.{leastConditions, leastNumber, LeastRoom}
 use Rattle.shelf.specs.Shelf as shelf
-use Rattle.shelf.specs.Lookup.{has, lookupNumber, lookupRecord, lookupPlace}
+use Rattle.shelf.specs.Lookup.{lookupConditions, lookupNumber, lookupRecord, lookupPlace}
 use Rattle.shelf.specs.Promises.{LookedUp, hostedSendNumber, HostedSent, hostedReceiveNumber, HostedReceived}
-use Rattle.demands.specs.Numbers.{NoneHolds, rising, Answers}
+use Rattle.demands.specs.Numbers.{NoneHolds, Answers}
 use Rattle.demands.specs.Outputs.{Kept, Alike}
-use Rattle.demands.proofs.Lowest.{answers, one-list}
+use Rattle.demands.proofs.Lowest.{rising, answers, one-list}
 use Rattle.demands.proofs.Outputs as outputs
 
--- ---- "refuses with the number that document 01 gives, tested in its order": each call's numbers and conditions
+-- ---- "refuses with the number that document 01 gives, tested in its order": each call answers the lowest of its numbers that applies; the lists stand
+-- beside the promises
 
-abbrev pub ofBits : ℕ → List ℕ → List (ℕ × Bool)
-ofBits w bits = (8, otherWidth w) ∷ (12, someOver 1 bits) ∷ []
-
-abbrev pub ofOctets : ℕ → List (ℕ × Bool)
-ofOctets w = (8, otherWidth w) ∷ []
-
-abbrev pub judging : List ℕ → List (ℕ × Bool)
-judging R = (5, not (wellFormed R)) ∷ (6, not (staircases R)) ∷ []
-
-abbrev pub planning : List ℕ → ℕ → List (ℕ × Bool)
-planning R octets =
-    (5, not (wellFormed R))
-    ∷ (6, not (staircases R))
-    ∷ (7, not (within 1 2048 octets))
-    ∷ (9, ltb 64 (blocks R (blockBits octets)))
-    ∷ []
-
-abbrev pub coding : List ℕ → ℕ → List ℕ → ℕ → List (ℕ × Bool)
-coding R z places room =
-    (5, not (wellFormed R))
-    ∷ (6, not (staircases R))
-    ∷ (8, unfit R z (kb R) places)
-    ∷ (11, ltb room ((kb R + m R) * z))
-    ∷ (12, someOver 2 places)
-    ∷ (15, not (hasParity (tableFor R z) (kb R) (m R) z places))
-    ∷ []
-
-abbrev pub checking : List ℕ → ℕ → List ℕ → List (ℕ × Bool)
-checking R z word =
-    (5, not (wellFormed R))
-    ∷ (6, not (staircases R))
-    ∷ (8, unfit R z (kb R + m R) word)
-    ∷ (12, someOver 1 word)
-    ∷ []
-
-abbrev pub matching : List ℕ → ℕ → ℕ → List (ℕ × Bool)
-matching places e room = (8, unmatchable places e) ∷ (11, ltb room e) ∷ (12, someOver 2 places) ∷ []
-
-abbrev pub sending : List ℕ → List ℕ → ℕ → ℕ → ℕ → ℕ → List (ℕ × Bool)
-sending R block nl qm g room =
-    (5, not (wellFormed R))
-    ∷ (6, not (staircases R))
-    ∷ (7, not (within 1 2048 (length block)))
-    ∷ (8, misallocated nl qm g)
-    ∷ (9, ltb 64 (blocks R (blockBits (length block))))
-    ∷ (10, tooFewPlaces R (length block) nl qm g)
-    ∷ (11, ltb room g)
-    ∷ (15, someWithoutParity R block)
-    ∷ []
-
-abbrev pub receiving : List ℕ → ℕ → ℕ → ℕ → List ℕ → ℕ → List (ℕ × Bool)
-receiving R a nl qm bits room =
-    (5, not (wellFormed R))
-    ∷ (6, not (staircases R))
-    ∷ (7, notOctets a)
-    ∷ (8, misallocated nl qm (length bits))
-    ∷ (9, ltb 64 (blocks R (blockBits (a / 8))))
-    ∷ (10, tooFewPlaces R (a / 8) nl qm (length bits))
-    ∷ (11, ltb room (a / 8))
-    ∷ (12, someOver 1 bits)
-    ∷ (13, someWithoutRoom R (a / 8) nl qm (length bits))
-    ∷ (14, not (someSentAs R (a / 8) nl qm bits))
-    ∷ []
-
-abbrev pub lookingUp : List ℕ → List ℕ → ℕ → ℕ → List (ℕ × Bool)
-lookingUp private public t p =
-    (1, eqb t 0)
-    ∷ (2, not (shelf.wellFormed true private))
-    ∷ (3, not (shelf.wellFormed false public))
-    ∷ (4, not (has private t p || has public 0 p))
-    ∷ []
-
--- ---- and each call answers the lowest of them that applies
-
-pub of-bits-number : {w : ℕ} {bits : List ℕ} {r : Sum} → OfBits w bits r → Answers (r .number) (ofBits w bits)
+pub of-bits-number : {w : ℕ} {bits : List ℕ} {r : Sum} → OfBits w bits r → Answers (r .number) (bitsConditions w bits)
 unfolding bitsNumber rising
-of-bits-number {w} {bits} a = answers (ofBits w bits) refl (a .number)
+of-bits-number {w} {bits} a = answers (bitsConditions w bits) refl (a .number)
 
-pub of-octets-number : {w : ℕ} {octets : List ℕ} {r : Sum} → OfOctets w octets r → Answers (r .number) (ofOctets w)
+pub of-octets-number : {w : ℕ} {octets : List ℕ} {r : Sum} → OfOctets w octets r → Answers (r .number) (octetsConditions w)
 unfolding octetsNumber rising
-of-octets-number {w} a = answers (ofOctets w) refl (a .number)
+of-octets-number {w} a = answers (octetsConditions w) refl (a .number)
 
-pub judge-number : (R : List ℕ) {r : ℕ} → r ≡ judged R → Answers r (judging R)
+pub judge-number : (R : List ℕ) {r : ℕ} → r ≡ judged R → Answers r (judgeConditions R)
 unfolding judged rising
-judge-number R a = answers (judging R) refl a
+judge-number R a = answers (judgeConditions R) refl a
 
-pub plan-block-number : {R : List ℕ} {octets : ℕ} {r : Plan} → Planned R octets r → Answers (r .number) (planning R octets)
+pub plan-block-number : {R : List ℕ} {octets : ℕ} {r : Plan} → Planned R octets r → Answers (r .number) (planConditions R octets)
 unfolding planNumber rising
-plan-block-number {R} {octets} a = answers (planning R octets) refl (a .number)
+plan-block-number {R} {octets} a = answers (planConditions R octets) refl (a .number)
 
-pub check-word-number : {R : List ℕ} {z : ℕ} {word : List ℕ} {r : Verdict} → WordChecked R z word r → Answers (r .number) (checking R z word)
+pub check-word-number : {R : List ℕ} {z : ℕ} {word : List ℕ} {r : Verdict} → WordChecked R z word r → Answers (r .number) (checkConditions R z word)
 unfolding checkNumber rising
-check-word-number {R} {z} {word} a = answers (checking R z word) refl (a .number)
+check-word-number {R} {z} {word} a = answers (checkConditions R z word) refl (a .number)
 
-pub lookup-number-number : (private public : List ℕ) (t p : ℕ) {r : ℕ} → r ≡ lookupNumber private public t p → Answers r (lookingUp private public t p)
+pub least-bits-number : {R : List ℕ} {octets nl qm : ℕ} {r : Least} → LeastRoom R octets nl qm r → Answers (r .number) (leastConditions R octets nl qm)
+unfolding leastNumber rising
+least-bits-number {R} {octets} {nl} {qm} a = answers (leastConditions R octets nl qm) refl (a .number)
+
+pub lookup-number-number : (private public : List ℕ) (t p : ℕ) {r : ℕ} → r ≡ lookupNumber private public t p → Answers r (lookupConditions private public t p)
 unfolding lookupNumber rising
-lookup-number-number private public t p a = answers (lookingUp private public t p) refl a
+lookup-number-number private public t p a = answers (lookupConditions private public t p) refl a
 
-code-answers : (R : List ℕ) (z : ℕ) (places : List ℕ) (room : ℕ) {r : ℕ} → r ≡ codeNumber R z places room → Answers r (coding R z places room)
+code-answers : (R : List ℕ) (z : ℕ) (places : List ℕ) (room : ℕ) {r : ℕ} → r ≡ codeNumber R z places room → Answers r (codeConditions R z places room)
 unfolding codeNumber rising
-code-answers R z places room e = answers (coding R z places room) refl e
+code-answers R z places room e = answers (codeConditions R z places room) refl e
 
-match-answers : (places : List ℕ) (e room : ℕ) {r : ℕ} → r ≡ matchNumber places e room → Answers r (matching places e room)
+match-answers : (places : List ℕ) (e room : ℕ) {r : ℕ} → r ≡ matchNumber places e room → Answers r (matchConditions places e room)
 unfolding matchNumber rising
-match-answers places e room q = answers (matching places e room) refl q
+match-answers places e room q = answers (matchConditions places e room) refl q
 
-send-answers : (R block : List ℕ) (nl qm g room : ℕ) {r : ℕ} → r ≡ sendNumber R block nl qm g room → Answers r (sending R block nl qm g room)
+send-answers : (R block : List ℕ) (nl qm g room : ℕ) {r : ℕ} → r ≡ sendNumber R block nl qm g room → Answers r (sendConditions R block nl qm g room)
 unfolding sendNumber rising
-send-answers R block nl qm g room q = answers (sending R block nl qm g room) refl q
+send-answers R block nl qm g room q = answers (sendConditions R block nl qm g room) refl q
 
 receive-answers : (R : List ℕ) (a nl qm : ℕ) (bits : List ℕ) (room : ℕ) {r : ℕ} → r ≡ receiveNumber R a nl qm bits room
-    → Answers r (receiving R a nl qm bits room)
+    → Answers r (receiveConditions R a nl qm bits room)
 unfolding receiveNumber rising
-receive-answers R a nl qm bits room q = answers (receiving R a nl qm bits room) refl q
+receive-answers R a nl qm bits room q = answers (receiveConditions R a nl qm bits room) refl q
 
--- "The hosted sending and receiving calls do a lookup first"
+-- "The hosted sendConditions and receiveConditions calls do a lookup first"
 hosted-send-answers : (private public : List ℕ) (t p : ℕ) (block : List ℕ) (nl qm g room : ℕ) {r : ℕ}
     → r ≡ hostedSendNumber private public t p block nl qm g room
-    → Answers r (lookingUp private public t p ++ sending (lookupRecord private public t p) block nl qm g room)
+    → Answers r (lookupConditions private public t p ++ sendConditions (lookupRecord private public t p) block nl qm g room)
 unfolding hostedSendNumber lookupNumber sendNumber rising Refusals
 hosted-send-answers private public t p block nl qm g room q =
-    let last = sending (lookupRecord private public t p) block nl qm g room in
-    answers (lookingUp private public t p ++ last) refl (q ∙ one-list (lookingUp private public t p) last tt)
+    let last = sendConditions (lookupRecord private public t p) block nl qm g room in
+    answers (lookupConditions private public t p ++ last) refl (q ∙ one-list (lookupConditions private public t p) last tt)
 
 hosted-receive-answers : (private public : List ℕ) (t p a nl qm : ℕ) (bits : List ℕ) (room : ℕ) {r : ℕ}
     → r ≡ hostedReceiveNumber private public t p a nl qm bits room
-    → Answers r (lookingUp private public t p ++ receiving (lookupRecord private public t p) a nl qm bits room)
+    → Answers r (lookupConditions private public t p ++ receiveConditions (lookupRecord private public t p) a nl qm bits room)
 unfolding hostedReceiveNumber lookupNumber receiveNumber rising Refusals
 hosted-receive-answers private public t p a nl qm bits room q =
-    let last = receiving (lookupRecord private public t p) a nl qm bits room in
-    answers (lookingUp private public t p ++ last) refl (q ∙ one-list (lookingUp private public t p) last tt)
+    let last = receiveConditions (lookupRecord private public t p) a nl qm bits room in
+    answers (lookupConditions private public t p ++ last) refl (q ∙ one-list (lookupConditions private public t p) last tt)
 
 -- ---- "When it refuses, its other results are 0, or no"
 
@@ -222,7 +155,7 @@ code-writes : {R : List ℕ} {z : ℕ} {places out : List ℕ} {r : Written} {o 
 code-writes a = record { number = a .number; count = a .count; output = a .output }
 
 pub code-block-number : {R : List ℕ} {z : ℕ} {places out : List ℕ} {r : Written} {o : List ℕ}
-    → BlockCoded R z places out r o → Answers (r .number) (coding R z places (length out))
+    → BlockCoded R z places out r o → Answers (r .number) (codeConditions R z places (length out))
 code-block-number {R} {z} {places} {out} a = code-answers R z places (length out) (a .number)
 
 pub code-block-kept : {R : List ℕ} {z : ℕ} {places out : List ℕ} {r : Written} {o : List ℕ} → BlockCoded R z places out r o → Kept out r o
@@ -232,7 +165,7 @@ pub code-block-alike : {R : List ℕ} {z : ℕ} {places out : List ℕ} {r : Wri
     → BlockCoded R z places out r o → BlockCoded R z places other s u → Alike r o s u
 code-block-alike {R} {z} {places} e a b = outputs.alike (code-fits R z places) e (code-writes a) (code-writes b)
 
--- coding::rate_match
+-- codeConditions::rate_match
 match-fits : (places : List ℕ) (e : ℕ) → outputs.Fitting (matchNumber places e) e (matched places e)
 unfolding NoneHolds matched
 match-fits places e =
@@ -246,7 +179,7 @@ match-writes : {places : List ℕ} {e : ℕ} {out : List ℕ} {r : Written} {o :
 match-writes a = record { number = a .number; count = a .count; output = a .output }
 
 pub rate-match-number : {places : List ℕ} {e : ℕ} {out : List ℕ} {r : Written} {o : List ℕ}
-    → RateMatched places e out r o → Answers (r .number) (matching places e (length out))
+    → RateMatched places e out r o → Answers (r .number) (matchConditions places e (length out))
 rate-match-number {places} {e} {out} a = match-answers places e (length out) (a .number)
 
 pub rate-match-kept : {places : List ℕ} {e : ℕ} {out : List ℕ} {r : Written} {o : List ℕ} → RateMatched places e out r o → Kept out r o
@@ -256,7 +189,7 @@ pub rate-match-alike : {places : List ℕ} {e : ℕ} {out : List ℕ} {r : Writt
     → RateMatched places e out r o → RateMatched places e other s u → Alike r o s u
 rate-match-alike {places} {e} q a b = outputs.alike (match-fits places e) q (match-writes a) (match-writes b)
 
--- coding::send
+-- codeConditions::send
 send-fits : (R block : List ℕ) (nl qm g : ℕ) → outputs.Fitting (sendNumber R block nl qm g) g (sent R block nl qm g)
 unfolding NoneHolds
 send-fits R block nl qm g =
@@ -270,7 +203,7 @@ send-writes : {R block : List ℕ} {nl qm g : ℕ} {out : List ℕ} {r : Written
 send-writes a = record { number = a .number; count = a .count; output = a .output }
 
 pub send-number : {R block : List ℕ} {nl qm g : ℕ} {out : List ℕ} {r : Written} {o : List ℕ}
-    → Sent R block nl qm g out r o → Answers (r .number) (sending R block nl qm g (length out))
+    → Sent R block nl qm g out r o → Answers (r .number) (sendConditions R block nl qm g (length out))
 send-number {R} {block} {nl} {qm} {g} {out} a = send-answers R block nl qm g (length out) (a .number)
 
 pub send-kept : {R block : List ℕ} {nl qm g : ℕ} {out : List ℕ} {r : Written} {o : List ℕ} → Sent R block nl qm g out r o → Kept out r o
@@ -280,7 +213,7 @@ pub send-alike : {R block : List ℕ} {nl qm g : ℕ} {out : List ℕ} {r : Writ
     → Sent R block nl qm g out r o → Sent R block nl qm g other s u → Alike r o s u
 send-alike {R} {block} {nl} {qm} {g} e a b = outputs.alike (send-fits R block nl qm g) e (send-writes a) (send-writes b)
 
--- coding::receive
+-- codeConditions::receive
 received-size : (R : List ℕ) (octets nl qm : ℕ) (bits : List ℕ) → length (received R octets nl qm bits) ≡ octets
 unfolding received
 received-size R octets nl qm bits = nth-length octets _
@@ -298,7 +231,7 @@ receive-writes : {R : List ℕ} {a nl qm : ℕ} {bits out : List ℕ} {r : Writt
 receive-writes a = record { number = a .number; count = a .count; output = a .output }
 
 pub receive-number : {R : List ℕ} {a nl qm : ℕ} {bits out : List ℕ} {r : Written} {o : List ℕ}
-    → Received R a nl qm bits out r o → Answers (r .number) (receiving R a nl qm bits (length out))
+    → Received R a nl qm bits out r o → Answers (r .number) (receiveConditions R a nl qm bits (length out))
 receive-number {R} {a} {nl} {qm} {bits} {out} h = receive-answers R a nl qm bits (length out) (h .number)
 
 pub receive-kept : {R : List ℕ} {a nl qm : ℕ} {bits out : List ℕ} {r : Written} {o : List ℕ} → Received R a nl qm bits out r o → Kept out r o
@@ -327,7 +260,7 @@ hosted-send-writes a = record { number = a .number; count = a .count; output = a
 
 pub hosted-send-number : {private public : List ℕ} {t p : ℕ} {block : List ℕ} {nl qm g : ℕ} {out : List ℕ} {r : Written} {o : List ℕ}
     → HostedSent private public t p block nl qm g out r o
-    → Answers (r .number) (lookingUp private public t p ++ sending (lookupRecord private public t p) block nl qm g (length out))
+    → Answers (r .number) (lookupConditions private public t p ++ sendConditions (lookupRecord private public t p) block nl qm g (length out))
 hosted-send-number {private} {public} {t} {p} {block} {nl} {qm} {g} {out} a = hosted-send-answers private public t p block nl qm g (length out) (a .number)
 
 pub hosted-send-kept : {private public : List ℕ} {t p : ℕ} {block : List ℕ} {nl qm g : ℕ} {out : List ℕ} {r : Written} {o : List ℕ}
@@ -360,7 +293,7 @@ hosted-receive-writes a = record { number = a .number; count = a .count; output 
 
 pub hosted-receive-number : {private public : List ℕ} {t p a nl qm : ℕ} {bits out : List ℕ} {r : Written} {o : List ℕ}
     → HostedReceived private public t p a nl qm bits out r o
-    → Answers (r .number) (lookingUp private public t p ++ receiving (lookupRecord private public t p) a nl qm bits (length out))
+    → Answers (r .number) (lookupConditions private public t p ++ receiveConditions (lookupRecord private public t p) a nl qm bits (length out))
 hosted-receive-number {private} {public} {t} {p} {a} {nl} {qm} {bits} {out} h =
     hosted-receive-answers private public t p a nl qm bits (length out) (h .number)
 

@@ -3,25 +3,32 @@ use mathlib.Core.Path.{_≡_, sym, _∙_, subst}
 use mathlib.Core.Bool.{true, false}
 use mathlib.Core.List.{List, _++_}
 use mathlib.Core.Logic.{_⊎_}
-use Prim.Native.Nat.{ℕ, _*_, _≤_}
+use Prim.Native.Nat.{ℕ, _-_, _*_, _≤_, _<_}
+use native.Mathlib.Nat.{le-refl}
+use native.Mathlib.Omega.{arith}
 use denote.Ref.{RefT, now}
 use lib.ListN.{length, take, drop}
 use Rattle.bits.specs.Bits.{AreOctets}
 use Rattle.bits.specs.declared.number.Written.{Written}
 use Rattle.bits.proofs.Answers.{when-done}
-use Rattle.profile.specs.Promises.{planNumber}
+use Rattle.bits.proofs.Ranges.{below-or, last-or}
+use Rattle.profile.specs.Record.{kb, t, z}
+use Rattle.profile.specs.Plan.{ceil, blockBits, blocks, whichSize}
+use Rattle.profile.specs.Promises.{planConditions, planNumber}
+use Rattle.profile.proofs.Plans.{plan-cut}
 use Rattle.coding.specs.Blocks.{someWithoutParity}
 use Rattle.coding.specs.Promises.{sendNumber, Sent, Received}
-use Rattle.coding.proofs.RoundTrip.{Roomy, sent-front, sent-returns}
+use Rattle.coding.specs.RoundTrip.{Roomy}
+use Rattle.coding.proofs.RoundTrip.{sent-front, sent-returns}
 use Rattle.shelf.specs.Shelf.{wellFormed}
 use Rattle.shelf.specs.Lookup.{lookupNumber, lookupRecord}
 use Rattle.shelf.specs.Promises.{LookedUp, HostedSent, HostedReceived}
-use Rattle.shelf.specs.Isolation.{AgreeFor}
-use Rattle.shelf.proofs.Isolation.{Own, Public, served, same-number, same-record, same-sent, same-received}
+use Rattle.shelf.specs.Isolation.{Own, Public, AgreeFor}
+use Rattle.shelf.proofs.Isolation.{served, same-number, same-record, same-sent, same-received}
 use Rattle.demands.specs.Numbers.{NoneHolds}
 use Rattle.demands.specs.Steps.{Steps}
 use Rattle.demands.proofs.Lowest.{none-answered}
-use Rattle.demands.proofs.Demand1.{planning, send-number}
+use Rattle.demands.proofs.Demand1.{send-number}
 use Rattle.demands.proofs.Steps.{steps, steps-only}
 use Rattle.demands.proofs.Hosted.{send-hosted, receive-hosted}
 
@@ -32,7 +39,7 @@ module _ {R block : List ℕ} {nl qm g : ℕ} {out : List ℕ} {r : Written} {o 
   unfolding NoneHolds planNumber
   passed =
       let h = send-number s .only-done done in
-      (none-answered (planning R (length block)) (h .0, (h .1 .0, (h .1 .1 .0, (h .1 .1 .1 .1 .0, tt)))), h .1 .1 .1 .1 .1 .1 .1 .0)
+      (none-answered (planConditions R (length block)) (h .0, (h .1 .0, (h .1 .1 .0, (h .1 .1 .1 .1 .0, tt)))), h .1 .1 .1 .1 .1 .1 .1 .0)
 
   -- where sending answers 0 (when it does is in Demand1), G octets are written, and they follow the six steps
   pub sends : (r .count ≡ g) × (Steps R block nl qm g (take g o))
@@ -44,6 +51,29 @@ module _ {R block : List ℕ} {nl qm g : ℕ} {out : List ℕ} {r : Written} {o 
   -- and no other bits follow them
   pub sends-only : (bits : List ℕ) → Steps R block nl qm g bits → bits ≡ take g o
   sends-only bits h = steps-only R block nl qm g (passed .0) (passed .1) bits h ∙ sym (sent-front s done)
+
+-- the same over the hosted call, with the record that was found
+pub hosted-sends : {private public : List ℕ} {t p : ℕ} {block : List ℕ} {nl qm g : ℕ} {out : List ℕ} {r : Written} {o : List ℕ}
+    → HostedSent private public t p block nl qm g out r o → lookupNumber private public t p ≡ 0 → r .number ≡ 0
+    → (r .count ≡ g) × (Steps (lookupRecord private public t p) block nl qm g (take g o))
+hosted-sends {private} {public} {t} {p} a z done = sends (send-hosted private public t p z a) done
+
+-- "Kmax is kb times the largest z", "the smallest z with kb·z ≥ ceil(B/C)": the last of an accepted record's sizes is the largest, and the one that is
+-- chosen is enough and the smallest that is
+module _ (R : List ℕ) (octets : ℕ) (taken : planNumber R octets ≡ 0) where
+  pub largest : (j : ℕ) → j < t R → z R j ≤ z R (t R - 1)
+  largest j l = last-or j (t R - 1) (omega arith) (λ b. let up = plan-cut R octets taken .known .rise j (t R - 1) b (omega arith) in omega arith) (λ e. rw e (le-refl _))
+
+  pub enough : ceil (blockBits octets) (blocks R (blockBits octets)) ≤ kb R * z R (whichSize R (blockBits octets))
+  enough = let cut = plan-cut R octets taken in omega (arith, cut .room, cut .product)
+
+  pub smallest : (j : ℕ) → j < t R → ceil (blockBits octets) (blocks R (blockBits octets)) ≤ kb R * z R j → z R (whichSize R (blockBits octets)) ≤ z R j
+  smallest j l h =
+      let cut = plan-cut R octets taken in
+      below-or j (whichSize R (blockBits octets))
+      (λ b. absurd (omega (arith, cut .least j b)))
+      (λ b. last-or (whichSize R (blockBits octets)) j (omega arith)
+      (λ o. let up = cut .known .rise (whichSize R (blockBits octets)) j o l in omega arith) (λ e. rw e (le-refl _)))
 
 -- ---- "and receiving undoes it where every code block has room"
 

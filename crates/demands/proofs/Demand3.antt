@@ -7,13 +7,15 @@ use lib.ListN.{length, take, drop}
 use Rattle.bits.specs.Bits.{AreBits, AreOctets}
 use Rattle.bits.specs.declared.number.Written.{Written}
 use Rattle.coding.specs.Promises.{Sent, Received}
-use Rattle.coding.proofs.RoundTrip.{Roomy, SentAs, sent-apart, sent-returns, unsent-exactly}
+use Rattle.coding.specs.RoundTrip.{Roomy, SentAs}
+use Rattle.coding.proofs.RoundTrip.{sent-apart, sent-returns, unsent-exactly}
 use Rattle.shelf.specs.Lookup.{lookupNumber, lookupRecord}
 use Rattle.shelf.specs.Promises.{HostedSent, HostedReceived}
+use Rattle.demands.specs.Hosted.{HostedSentAs}
 use Rattle.demands.proofs.Hosted.{looked-up, send-hosted, hosted-send, receive-hosted}
 
 -- "Take an accepted profile, block length and allocation in which every code block has room for all its coded bits that are not filler": Roomy, of
--- coding/proofs/RoundTrip; "and a receiving buffer that holds the block": octets ≤ length buf
+-- coding/specs/RoundTrip; "and a receiving buffer that holds the block": octets ≤ length buf
 
 -- ---- `send` and `receive`
 
@@ -40,15 +42,6 @@ pub exactly : {R : List ℕ} {octets nl qm : ℕ} {bits buf : List ℕ} {r : Wri
 exactly h single fits v = unsent-exactly h single fits v
 
 -- ---- the hosted calls: R is the record that the tenant t is given for the profile number p
-
--- a transport block is sent as these bits: a call of `hosted_send` that keeps its promise answers 0 and leaves them in front
-pub record HostedSentAs (private public : List ℕ) (t p nl qm : ℕ) (block bits : List ℕ) : Type 0 where
-  pub out : List ℕ
-  pub result : Written
-  pub exit : List ℕ
-  pub promise : HostedSent private public t p block nl qm (length bits) out result exit
-  pub done : result .number ≡ 0
-  pub bits-are : take (length bits) exit ≡ bits
 
 module _ {private public : List ℕ} {t p : ℕ} where
   -- "Two different transport blocks are never sent as the same bits"

@@ -15,14 +15,15 @@ use Rattle.bits.specs.declared.number.Written.{Written}
 use Rattle.bits.proofs.Over.{over-none-bits}
 use Rattle.checksum.specs.Crc.{reduce, divideOn, remainder, checksum, attached}
 use Rattle.checksum.specs.Crc as crc
+use Rattle.checksum.specs.steps.Testing as testing
 use Rattle.checksum.proofs.Attachment.{checks-complete}
 use Rattle.profile.specs.Record.{kb, m, t, z, offset, tableSize, table, entry, headerRight, offsetDue, lengthRight, rises, sizeRight, shiftRight, tableRight, wellFormed}
 use Rattle.profile.specs.Staircase.{firstDue, nextDue, rowRight, stairsAt, staircase, staircases}
-use Rattle.profile.specs.Plan.{ceil, blockBits, kmax, blocks, ownBits, sizeFor, sizeOf, places, filler}
+use Rattle.profile.specs.Plan.{ceil, blockBits, kmax, blocks, ownBits, whichSizeFor, whichSize, places, filler}
 use Rattle.profile.specs.Promises.{planNumber}
 use Rattle.profile.proofs.Plans.{plan-cut}
 use Rattle.parity.specs.Matrix.{square, spread, bitAt, rowEven, checks}
-use Rattle.parity.specs.Coded.{withParity, chosen, hasParity, coded}
+use Rattle.parity.specs.Coded.{withParity, checksWith, hasParity, coded}
 use Rattle.coding.specs.Transport.{transport}
 use Rattle.coding.specs.Cutting.{ownStart, own, systematic}
 use Rattle.coding.specs.Allocation.{misallocated, symbolPlaces, share}
@@ -32,8 +33,9 @@ use Rattle.coding.specs.Promises.{tooFewPlaces, sendNumber, Sent, notOctets, re
 use Rattle.coding.specs.steps.Receiving.{shareStart, ownHeard, gathered, Heard}
 use Rattle.coding.specs.Matching.{kept, listTo, matched}
 use Rattle.coding.specs.Joining.{blockSent, joined, padded, sent}
-use Rattle.coding.proofs.RoundTrip.{Roomy, sent-front, sent-returns, unsent-exactly}
-use Rattle.coding.proofs.Worked.{toy, sixteen}
+use Rattle.coding.specs.RoundTrip.{Roomy}
+use Rattle.coding.specs.Worked.{toy, sixteen}
+use Rattle.coding.proofs.RoundTrip.{sent-front, sent-returns, unsent-exactly}
 use Rattle.coding.proofs.Shares.{allocated}
 use Rattle.coding.proofs.Received.{block-gathered}
 use Rattle.coding.proofs.Transported.{generator-24}
@@ -82,8 +84,8 @@ sendingDue c = c .due
 pub sendings-answered : map sending sendings ≡ map sendingDue sendings
 unfolding sendings bent toy sendNumber answered misallocated tooFewPlaces share symbolPlaces placesOf bitsOf numberAt digits readOn number unpacked sumTo parityTo
     allTo anyTo firstTo reduce divideOn remainder checksum attached kb m t z offset tableSize table entry headerRight offsetDue lengthRight rises sizeRight shiftRight
-    tableRight wellFormed firstDue nextDue rowRight stairsAt staircase staircases ceil blockBits kmax blocks ownBits sizeFor sizeOf places filler square spread bitAt
-    rowEven checks withParity chosen hasParity transport ownStart own systematic blockHasParity someWithoutParity
+    tableRight wellFormed firstDue nextDue rowRight stairsAt staircase staircases ceil blockBits kmax blocks ownBits whichSizeFor whichSize places filler square spread bitAt
+    rowEven checks withParity checksWith hasParity transport ownStart own systematic blockHasParity someWithoutParity
 sendings-answered = refl
 
 -- ---- and receiving
@@ -119,7 +121,7 @@ receivingDue c = c .due
 pub receivings-answered : map receiving receivings ≡ map receivingDue receivings
 unfolding receivings bent toy receiveNumber answered notOctets misallocated tooFewPlaces share symbolPlaces placesOf bitsOf someOver someWithoutRoom sendable numberAt
     allTo anyTo firstTo kb m t z offset tableSize table entry headerRight offsetDue lengthRight rises sizeRight shiftRight tableRight wellFormed firstDue nextDue
-    rowRight stairsAt staircase staircases ceil blockBits kmax blocks ownBits sizeFor sizeOf places filler
+    rowRight stairsAt staircase staircases ceil blockBits kmax blocks ownBits whichSizeFor whichSize places filler
 receivings-answered = refl
 
 -- ---- lookup, on a shelf where tenant 1 has the toy record as number 7
@@ -179,17 +181,17 @@ roomy g h = record { direct = h; hosted = subst (λ (R : List ℕ). Roomy R 1 1 
 
 pub room-128 : Room 128
 unfolding misallocated tooFewPlaces someWithoutRoom sendable share symbolPlaces placesOf bitsOf toy numberAt anyTo firstTo kb m t z ceil blockBits kmax blocks ownBits
-    sizeFor sizeOf places filler
+    whichSizeFor whichSize places filler
 room-128 = roomy 128 (record { taken = planned; allocation = refl; enough = refl; room = refl })
 
 pub room-130 : Room 130
 unfolding misallocated tooFewPlaces someWithoutRoom sendable share symbolPlaces placesOf bitsOf toy numberAt anyTo firstTo kb m t z ceil blockBits kmax blocks ownBits
-    sizeFor sizeOf places filler
+    whichSizeFor whichSize places filler
 room-130 = roomy 130 (record { taken = planned; allocation = refl; enough = refl; room = refl })
 
 pub room-256 : Room 256
 unfolding misallocated tooFewPlaces someWithoutRoom sendable share symbolPlaces placesOf bitsOf toy numberAt anyTo firstTo kb m t z ceil blockBits kmax blocks ownBits
-    sizeFor sizeOf places filler
+    whichSizeFor whichSize places filler
 room-256 = roomy 256 (record { taken = planned; allocation = refl; enough = refl; room = refl })
 
 -- ---- a reception that is accepted: the 128 bits of P10
@@ -256,9 +258,9 @@ module _ (bits : List ℕ) (h : Roomy toy 1 1 2 (length bits)) (none : someOver 
 unfoldable pub ones : List ℕ
 ones = replicate 128 1
 
-ones-gathered : crc.checks 24 crc.gen24A (gathered toy (blockBits 1) 1 2 ones) ≡ false
+ones-gathered : testing.checks 24 crc.gen24A (gathered toy (blockBits 1) 1 2 ones) ≡ false
 unfolding ones toy gathered ownHeard shareStart joined share symbolPlaces placesOf bitsOf numberAt digits readOn number sumTo firstTo anyTo reduce divideOn remainder
-    checksum attached kb m t z ceil blockBits kmax blocks ownBits crc.checks
+    checksum attached kb m t z ceil blockBits kmax blocks ownBits testing.checks
 ones-gathered = refl
 
 pub ones-refused : {buf : List ℕ} {r : Written} {buf' : List ℕ} → 1 ≤ length buf → Received toy 8 1 2 ones buf r buf' → r .number ≡ 14
@@ -266,7 +268,7 @@ unfolding ones transport someOver
 ones-refused fits v =
     refused ones (room-128 .direct) refl
     (λ block e is.
-    true≢false (sym (checks-complete 24 crc.gen24A (generator-24 .below) (unpacked block)) ∙ ap (crc.checks 24 crc.gen24A) e ∙ ones-gathered))
+    true≢false (sym (checks-complete 24 crc.gen24A (generator-24 .below) (unpacked block)) ∙ ap (testing.checks 24 crc.gen24A) e ∙ ones-gathered))
     fits v
 
 -- bits that are gathered as those of octet 01 are, but are not what it is sent as
@@ -280,9 +282,9 @@ module _ (bits : List ℕ) (h : Roomy toy 1 1 2 (length bits)) (none : someOver 
       other (ap (λ (u : List ℕ). padded (length bits) (joined (blocks toy (length u)) (blockSent toy u 1 2 (length bits)))) (sym e ∙ sym q) ∙ is))
       fits v
 
--- "all parity rows": the bits of P10 with the last one turned over
+-- "all parity rows": the bits of P10 with a parity bit of the first block turned over, the other blocks as they were
 unfoldable pub turned : List ℕ
-turned = set (unpacked sixteen) 127 1
+turned = set (unpacked sixteen) 7 1
 
 -- "zeros at the end": with two bits more, the last of which is 1
 unfoldable pub ended : List ℕ
@@ -302,7 +304,7 @@ pub turned-refused : {buf : List ℕ} {r : Written} {buf' : List ℕ} → 1 ≤ 
 unfolding turned sixteen digits unpacked someOver
 turned-refused fits v =
     refused-one turned (room-128 .direct) refl turned-gathered
-    (λ e. let z : _≡_ {A = ℕ} 0 1 = ap (λ (l : List ℕ). getD l 127 0) (sym (worked .p10) ∙ e) in omega arith) fits v
+    (λ e. let z : _≡_ {A = ℕ} 0 1 = ap (λ (l : List ℕ). getD l 7 0) (sym (worked .p10) ∙ e) in omega arith) fits v
 
 sent-130 : sent toy (0x01 ∷ []) 1 2 130 ≡ unpacked sixteen ++ (0 ∷ 0 ∷ [])
 unfolding sends.cases
@@ -324,7 +326,7 @@ copied = set (unpacked (doubled sixteen)) 255 1
 
 sent-256 : sent toy (0x01 ∷ []) 1 2 256 ≡ unpacked (doubled sixteen)
 unfolding doubled toy sixteen digits readOn number unpacked numberAt placesOf bitsOf sumTo parityTo allTo anyTo firstTo reduce divideOn remainder checksum attached kb m t z
-    offset tableSize table entry ceil kmax blocks ownBits sizeFor sizeOf places filler square spread bitAt rowEven checks withParity chosen coded transport ownStart own
+    offset tableSize table entry ceil kmax blocks ownBits whichSizeFor whichSize places filler square spread bitAt rowEven checks withParity checksWith coded transport ownStart own
     systematic codedBlock symbolPlaces share kept listTo matched blockSent joined padded sent
 sent-256 = refl
 

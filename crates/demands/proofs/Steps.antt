@@ -7,14 +7,14 @@ use native.Mathlib.Nat.{add-mul, suc-mul, zero-mul}
 use native.Mathlib.Omega.{arith}
 use borrow.Author.Tests.{not-false}
 use lib.ListN.{length, getD, take, drop, replicate, length-append, length-replicate, take-append-drop}
-use lib.Seq.{drop-at}
+use lib.Seq.{drop-at, take-all}
 use Rattle.bits.specs.Counts.{placesOf, bitsOf}
 use Rattle.bits.specs.Ranges.{sumTo}
 use Rattle.bits.proofs.Lists.{length-part}
 use Rattle.bits.proofs.Ranges.{none-any}
 use Rattle.checksum.specs.Crc.{attached}
 use Rattle.profile.specs.Record.{kb, m, z, table}
-use Rattle.profile.specs.Plan.{blockBits, blocks, ownBits, sizeOf, places, filler}
+use Rattle.profile.specs.Plan.{blockBits, blocks, ownBits, whichSize, places, filler}
 use Rattle.profile.specs.Promises.{planNumber}
 use Rattle.profile.proofs.Plans.{Cut, plan-passed, plan-cut}
 use Rattle.parity.specs.Matrix.{checks}
@@ -32,7 +32,7 @@ use Rattle.coding.proofs.Places.{length-list}
 use Rattle.coding.proofs.RoundTrip.{sent-length, sent-bits}
 use Rattle.coding.proofs.Shares.{sum-mono}
 use Rattle.coding.proofs.Transported.{length-transport}
-use Rattle.demands.specs.Steps.{blockCount, blockPlaces, blockSize, blockShare, Word, Steps}
+use Rattle.demands.specs.Steps.{blockCount, blockPlaces, blockTable, blockShare, Word, Steps}
 
 module _ (R block : List ℕ) (nl qm g : ℕ) (taken : planNumber R (length block) ≡ 0) (parity : someWithoutParity R block ≡ false) where
   abbrev u : List ℕ
@@ -45,7 +45,7 @@ module _ (R block : List ℕ) (nl qm g : ℕ) (taken : planNumber R (length bloc
   c = blocks R b
 
   abbrev i : ℕ
-  i = sizeOf R b
+  i = whichSize R b
 
   cut : Cut R b
   cut = plan-cut R (length block) taken
@@ -71,6 +71,12 @@ module _ (R block : List ℕ) (nl qm g : ℕ) (taken : planNumber R (length bloc
   own-fits : (r : ℕ) → mine r ≤ places R b
   unfolding mine
   own-fits r = omega (arith, cut .own-most r, cut .room)
+
+  own-together : joined c (own R u) ≡ u
+  unfolding ownStart mine
+  own-together =
+      joined-same (own R u) (λ r. take (mine r) (drop (ownStart R b r) u)) c (λ r l. own-is r) ∙ joined-cut mine u c
+      ∙ ap (λ (n : ℕ). take n u) (cut .own-sum) ∙ take-all b u (omega (arith, size))
 
   -- ---- the coded block
 
@@ -138,7 +144,7 @@ module _ (R block : List ℕ) (nl qm g : ℕ) (taken : planNumber R (length bloc
   zeros-last = ap (drop (c * e)) sent-is ∙ drop-at (joined c f) (replicate (g - c * e) 0) (c * e) (f-joined c)
 
   word-coded : (r : ℕ) → r < c → Word R (length block) (own R u r) (word r)
-  unfolding blockPlaces blockSize mine sys
+  unfolding blockPlaces blockTable mine sys
   word-coded r l =
       record {
         systematic = ap (take (places R b)) (word-is r)
@@ -162,7 +168,7 @@ module _ (R block : List ℕ) (nl qm g : ℕ) (taken : planNumber R (length bloc
         appended = refl;
         transported = size;
         carried = own-size;
-        all-carried = ap (λ (n : ℕ). ownStart R n c) size ∙ cut .own-sum ∙ sym size;
+        together = own-together;
         word = word;
         coded = word-coded;
         stretch = block-stretch;
@@ -175,7 +181,7 @@ module _ (R block : List ℕ) (nl qm g : ℕ) (taken : planNumber R (length bloc
 
   -- a word of the own bits is the coded block
   word-only : (r : ℕ) (w : List ℕ) → r < c → Word R (length block) (own R u r) w → w ≡ word r
-  unfolding blockPlaces blockSize mine sys
+  unfolding blockPlaces blockTable mine sys
   word-only r w l h =
       let front : take (kb R * z R i) w ≡ sys r =
       ap (λ (n : ℕ). take n w) (sym (cut .product)) ∙ h .systematic ∙ ap (λ (n : ℕ). own R u r ++ replicate (places R b - n) 2) (own-size r l) in

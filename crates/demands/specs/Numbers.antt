@@ -1,36 +1,10 @@
 -- What the first demand says of a call's number (document 01, "Numbers that are answered"). A list has the call's numbers, each with whether its
 -- condition holds.
 use mathlib.Core.Path.{_≡_}
-use mathlib.Core.Bool.{Bool, true, false, _&&_}
+use mathlib.Core.Bool.{Bool, true, false}
 use mathlib.Core.List.{List, [], _∷_}
 use mathlib.Core.Logic.{_⊎_}
 use Prim.Native.Nat.{ℕ, _<_}
-use lib.Dec.{ltb}
-
--- n's condition holds, and none that comes before it does
-unfoldable pub Lowest : ℕ → List (ℕ × Bool) → Type 0
-Lowest n [] = ⊥
-Lowest n ((k, c) ∷ l) = ((n ≡ k) × (c ≡ true)) ⊎ ((c ≡ false) × Lowest n l)
-
--- no condition holds
-unfoldable pub NoneHolds : List (ℕ × Bool) → Type 0
-NoneHolds [] = Unit
-NoneHolds ((k, c) ∷ l) = (c ≡ false) × NoneHolds l
-
--- the numbers strictly rise, and are all above b
-unfoldable pub rising : ℕ → List (ℕ × Bool) → Bool
-rising b [] = true
-rising b ((k, c) ∷ l) = ltb b k && rising k l
-
--- "Each is given when its condition holds and none below it does, and not otherwise"; 0, done, is given when none holds, and not otherwise
-pub record Answers (number : ℕ) (l : List (ℕ × Bool)) : Type 0 where
-  pub rises : rising 0 l ≡ true
-  pub given : (n : ℕ) → Lowest n l → number ≡ n
-  pub only : (n : ℕ) → (n ≡ 0 → ⊥) → number ≡ n → Lowest n l
-  pub done : NoneHolds l → number ≡ 0
-  pub only-done : number ≡ 0 → NoneHolds l
-
--- ---- in a list that rises, what comes before is what is below
 
 -- n is one of the numbers, and its condition holds
 unfoldable pub Applies : ℕ → List (ℕ × Bool) → Type 0
@@ -41,3 +15,15 @@ Applies n ((k, c) ∷ l) = ((n ≡ k) × (c ≡ true)) ⊎ Applies n l
 unfoldable pub NoneBelow : ℕ → List (ℕ × Bool) → Type 0
 NoneBelow n [] = Unit
 NoneBelow n ((k, c) ∷ l) = (k < n → c ≡ false) × NoneBelow n l
+
+-- no condition holds
+unfoldable pub NoneHolds : List (ℕ × Bool) → Type 0
+NoneHolds [] = Unit
+NoneHolds ((k, c) ∷ l) = (c ≡ false) × NoneHolds l
+
+-- "Each is given when its condition holds and none below it does, and not otherwise"; 0, done, is given when none holds, and not otherwise
+pub record Answers (number : ℕ) (l : List (ℕ × Bool)) : Type 0 where
+  pub given : (n : ℕ) → Applies n l → NoneBelow n l → number ≡ n
+  pub only : (n : ℕ) → (n ≡ 0 → ⊥) → number ≡ n → (Applies n l) × (NoneBelow n l)
+  pub done : NoneHolds l → number ≡ 0
+  pub only-done : number ≡ 0 → NoneHolds l

@@ -13,7 +13,7 @@ use Rattle.bits.specs.Ranges.{firstTo}
 use Rattle.bits.proofs.Digits.{length-digits, digits-bits, digits-number, number-lt}
 use Rattle.bits.proofs.Ranges.{any-of, first-some}
 use Rattle.parity.specs.Matrix.{checks}
-use Rattle.parity.specs.Coded.{withParity, chosen, hasParity, coded}
+use Rattle.parity.specs.Coded.{withParity, checksWith, hasParity, coded}
 use Rattle.parity.specs.steps.Grouped.{Solution}
 use Rattle.profile.proofs.Stairs.{Staircase}
 use Rattle.parity.proofs.Solve.{checked-solved}
@@ -74,26 +74,26 @@ module _ (kb m z : ℕ) (sys : List ℕ) (size : length sys ≡ kb * z) where
   module _ (T : List ℕ) where
     pub coded-length : length (coded T kb m z sys) ≡ (kb + m) * z
     unfolding coded
-    coded-length = with-length (firstTo (2 ^ (m * z)) (chosen T kb m z sys))
+    coded-length = with-length (firstTo (2 ^ (m * z)) (checksWith T kb m z sys))
 
     pub coded-take : take (kb * z) (coded T kb m z sys) ≡ sys
     unfolding coded
-    coded-take = with-take (firstTo (2 ^ (m * z)) (chosen T kb m z sys))
+    coded-take = with-take (firstTo (2 ^ (m * z)) (checksWith T kb m z sys))
 
     pub coded-bits : (p : ℕ) → kb * z ≤ p → getD (coded T kb m z sys) p 0 < 2
     unfolding coded
-    coded-bits = with-bits (firstTo (2 ^ (m * z)) (chosen T kb m z sys))
+    coded-bits = with-bits (firstTo (2 ^ (m * z)) (checksWith T kb m z sys))
 
     pub coded-checks : hasParity T kb m z sys ≡ true → checks T m (kb + m) z (coded T kb m z sys) ≡ true
-    unfolding hasParity coded chosen
-    coded-checks e = first-some (2 ^ (m * z)) (chosen T kb m z sys) e .holds
+    unfolding hasParity coded checksWith
+    coded-checks e = first-some (2 ^ (m * z)) (checksWith T kb m z sys) e .holds
 
     coded-solution : Staircase T kb m → hasParity T kb m z sys ≡ true → Solution T kb m z sys (coded T kb m z sys)
     unfolding coded
     coded-solution S e =
         record {
           size = coded-length;
-          front = with-front (firstTo (2 ^ (m * z)) (chosen T kb m z sys));
+          front = with-front (firstTo (2 ^ (m * z)) (checksWith T kb m z sys));
           bits = coded-bits;
           solved = checked-solved T kb m z (coded T kb m z sys) S (coded-checks e);
         }
@@ -106,9 +106,9 @@ module _ (kb m z : ℕ) (sys : List ℕ) (size : length sys ≡ kb * z) where
           ext-getD 0 (take (kb * z) w) sys (l ∙ sym size) (λ p o. getD-take (kb * z) w p 0 (omega arith) ∙ h .front p (omega arith))
 
       pub solved-has : checks T m (kb + m) z w ≡ true → hasParity T kb m z sys ≡ true
-      unfolding hasParity chosen
+      unfolding hasParity checksWith
       solved-has e =
-          any-of (2 ^ (m * z)) (chosen T kb m z sys) (number (drop (kb * z) w)) (choice-lt w (h .size) front-taken (h .bits))
+          any-of (2 ^ (m * z)) (checksWith T kb m z sys) (number (drop (kb * z) w)) (choice-lt w (h .size) front-taken (h .bits))
           (ap (checks T m (kb + m) z) (choice-is w (h .size) front-taken (h .bits)) ∙ e)
 
       pub solved-coded : hasParity T kb m z sys ≡ true → w ≡ coded T kb m z sys

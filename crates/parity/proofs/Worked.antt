@@ -7,7 +7,7 @@ use Rattle.bits.specs.Bits.{digits}
 use Rattle.bits.specs.Ranges.{sumTo, parityTo, allTo, anyTo, firstTo}
 use Rattle.profile.specs.Record.{entry}
 use Rattle.parity.specs.Matrix.{square, spread, bitAt, rowEven, checks}
-use Rattle.parity.specs.Coded.{withParity, chosen, hasParity, coded}
+use Rattle.parity.specs.Coded.{withParity, checksWith, hasParity, coded}
 
 -- "The toy record has kb 1, m 3, one z of 2": its table
 unfoldable pub toyTable : List ℕ
@@ -33,5 +33,5 @@ abbrev pub due : Case → List ℕ × Bool
 due c = (c .due, true)
 
 pub worked : map answer cases ≡ map due cases
-unfolding toyTable cases digits sumTo parityTo allTo anyTo firstTo entry square spread bitAt rowEven checks withParity chosen hasParity coded
+unfolding toyTable cases digits sumTo parityTo allTo anyTo firstTo entry square spread bitAt rowEven checks withParity checksWith hasParity coded
 worked = refl

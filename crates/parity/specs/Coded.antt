@@ -11,13 +11,13 @@ unfoldable pub withParity : ℕ → ℕ → List ℕ → ℕ → List ℕ
 withParity m z sys n = sys ++ digits (m * z) n
 
 -- "It must check with filler read as 0": the n-th choice does
-unfoldable pub chosen : List ℕ → ℕ → ℕ → ℕ → List ℕ → ℕ → Bool
-chosen T kb m z sys n = checks T m (kb + m) z (withParity m z sys n)
+unfoldable pub checksWith : List ℕ → ℕ → ℕ → ℕ → List ℕ → ℕ → Bool
+checksWith T kb m z sys n = checks T m (kb + m) z (withParity m z sys n)
 
 -- there are parity bits with which the block checks (number 15 where there are none)
 unfoldable pub hasParity : List ℕ → ℕ → ℕ → ℕ → List ℕ → Bool
-hasParity T kb m z sys = anyTo (2 ^ (m * z)) (chosen T kb m z sys)
+hasParity T kb m z sys = anyTo (2 ^ (m * z)) (checksWith T kb m z sys)
 
 -- the coded block: the places with the parity bits with which they check; "Filler places stay marked"
 unfoldable pub coded : List ℕ → ℕ → ℕ → ℕ → List ℕ → List ℕ
-coded T kb m z sys = withParity m z sys (firstTo (2 ^ (m * z)) (chosen T kb m z sys))
+coded T kb m z sys = withParity m z sys (firstTo (2 ^ (m * z)) (checksWith T kb m z sys))

@@ -16,7 +16,7 @@ square z s i j = cond (eqb s 255) 0 (cond (eqb j ((i + s) % z)) 1 0)
 unfoldable pub spread : List ℕ → ℕ → ℕ → ℕ → ℕ → ℕ
 spread T wide z row place = square z (entry T wide (row / z) (place / z)) (row % z) (place % z)
 
--- the bit at a place of a word; "filler read as 0": the mark 2 is even
+-- the bit at a place of a word, which holds 0, 1 or 2; "filler read as 0": the mark 2 is even
 unfoldable pub bitAt : List ℕ → ℕ → ℕ
 bitAt w place = getD w place 0 % 2
 

@@ -28,16 +28,18 @@ unfit R z' n w = not (hasSize R z') || not (eqb (length w) (n * z'))
 
 -- ---- coding one block of places, where the output is `room` octets long
 
-unfoldable pub codeNumber : List ℕ → ℕ → List ℕ → ℕ → ℕ
-codeNumber R z' places room =
-    answered
-    ((5, not (wellFormed R))
+abbrev pub codeConditions : List ℕ → ℕ → List ℕ → ℕ → List (ℕ × Bool)
+codeConditions R z' places room =
+    (5, not (wellFormed R))
     ∷ (6, not (staircases R))
     ∷ (8, unfit R z' (kb R) places)
     ∷ (11, ltb room ((kb R + m R) * z'))
     ∷ (12, someOver 2 places)
     ∷ (15, not (hasParity (tableFor R z') (kb R) (m R) z' places))
-    ∷ [])
+    ∷ []
+
+unfoldable pub codeNumber : List ℕ → ℕ → List ℕ → ℕ → ℕ
+codeNumber R z' places room = answered (codeConditions R z' places room)
 
 pub record BlockCoded (R : List ℕ) (z' : ℕ) (places out : List ℕ) (r : Written) (out' : List ℕ) : Type 0 where
   pub number : r .number ≡ codeNumber R z' places (length out)
@@ -46,14 +48,16 @@ pub record BlockCoded (R : List ℕ) (z' : ℕ) (places out : List ℕ) (r : Wri
 
 -- ---- checking one word of bits
 
-unfoldable pub checkNumber : List ℕ → ℕ → List ℕ → ℕ
-checkNumber R z' word =
-    answered
-    ((5, not (wellFormed R))
+abbrev pub checkConditions : List ℕ → ℕ → List ℕ → List (ℕ × Bool)
+checkConditions R z' word =
+    (5, not (wellFormed R))
     ∷ (6, not (staircases R))
     ∷ (8, unfit R z' (kb R + m R) word)
     ∷ (12, someOver 1 word)
-    ∷ [])
+    ∷ []
+
+unfoldable pub checkNumber : List ℕ → ℕ → List ℕ → ℕ
+checkNumber R z' word = answered (checkConditions R z' word)
 
 pub record WordChecked (R : List ℕ) (z' : ℕ) (word : List ℕ) (r : Verdict) : Type 0 where
   pub number : r .number ≡ checkNumber R z' word

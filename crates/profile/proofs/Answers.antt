@@ -10,7 +10,7 @@ use Rattle.bits.specs.Ranges.{allTo}
 use Rattle.bits.proofs.Answers.{passes, passed, when-done, when-refused}
 use Rattle.profile.specs.Record.{t, z, within, tableRight, wellFormed}
 use Rattle.profile.specs.Staircase.{staircases}
-use Rattle.profile.specs.Plan.{blockBits, kmax, blocks, sizeOf, places}
+use Rattle.profile.specs.Plan.{blockBits, kmax, blocks, whichSize, places}
 use Rattle.profile.specs.Promises.{judged, planNumber, Planned}
 use Rattle.profile.specs.steps.Shape.{shapeRight}
 use Rattle.profile.specs.steps.Cutting.{refusal, cutting}
@@ -74,8 +74,8 @@ module _ (R : List ℕ) where
           kmax = other (kmax R);
           blocks = other (blocks R (blockBits octets));
           places = other (places R (blockBits octets));
-          z = other (z R (sizeOf R (blockBits octets)));
-          size = other (sizeOf R (blockBits octets));
+          z = other (z R (whichSize R (blockBits octets)));
+          size = other (whichSize R (blockBits octets));
         }
 
     pub cutting-planned : planNumber R octets ≡ 0 → Planned R octets (cutting R (blockBits octets))
@@ -88,6 +88,6 @@ module _ (R : List ℕ) where
           kmax = done (kmax R);
           blocks = done (blocks R (blockBits octets));
           places = done (places R (blockBits octets));
-          z = done (z R (sizeOf R (blockBits octets)));
-          size = done (sizeOf R (blockBits octets));
+          z = done (z R (whichSize R (blockBits octets)));
+          size = done (whichSize R (blockBits octets));
         }

@@ -11,7 +11,7 @@ use Rattle.bits.specs.Ranges.{sumTo}
 use Rattle.bits.proofs.Ranges.{equal-or, any-of, First, first-some}
 use Rattle.bits.proofs.Answers.{passed}
 use Rattle.profile.specs.Record.{kb, m, t, z, within}
-use Rattle.profile.specs.Plan.{ceil, blockBits, kmax, blocks, ownBits, sizeFor, sizeOf, places}
+use Rattle.profile.specs.Plan.{ceil, blockBits, kmax, blocks, ownBits, whichSizeFor, whichSize, places}
 use Rattle.profile.specs.Promises.{judged, planNumber}
 use Rattle.profile.proofs.Shape.{within-is}
 use Rattle.profile.proofs.Accepted.{Accepted, accepted}
@@ -24,8 +24,8 @@ module _ (R : List ℕ) (known : Accepted R) where
   kmax-low = mul-pos (known .kb-low) (known .z-low (t R - 1) (omega (arith, known .t-low)))
 
   -- the last size gives Kmax places, so where that is enough there is a first that is enough
-  pub size-first : (need : ℕ) → need ≤ kmax R → First (t R) (λ i. leb need (kb R * z R i)) (sizeFor R need)
-  unfolding kmax sizeFor
+  pub size-first : (need : ℕ) → need ≤ kmax R → First (t R) (λ i. leb need (kb R * z R i)) (whichSizeFor R need)
+  unfolding kmax whichSizeFor
   size-first need h =
       let enough : ℕ → Bool = λ i. leb need (kb R * z R i) in
       let last : t R - 1 < t R = omega (arith, known .t-low) in
@@ -55,23 +55,23 @@ pub record Cut (R : List ℕ) (b : ℕ) : Type 0 where
   pub bits-high : b ≤ 16408
   pub some : 1 ≤ blocks R b
   pub most : blocks R b ≤ 64
-  pub size : sizeOf R b < t R
+  pub size : whichSize R b < t R
   pub room : ceil b (blocks R b) ≤ places R b
-  pub least : (i : ℕ) → i < sizeOf R b → kb R * z R i < ceil b (blocks R b)
-  pub product : places R b ≡ kb R * z R (sizeOf R b)
+  pub least : (i : ℕ) → i < whichSize R b → kb R * z R i < ceil b (blocks R b)
+  pub product : places R b ≡ kb R * z R (whichSize R b)
   pub places-high : places R b ≤ 1620
-  pub coded-high : (kb R + m R) * z R (sizeOf R b) ≤ 2592
+  pub coded-high : (kb R + m R) * z R (whichSize R b) ≤ 2592
   pub own-some : (r : ℕ) → 1 ≤ ownBits b (blocks R b) r
   pub own-most : (r : ℕ) → ownBits b (blocks R b) r ≤ ceil b (blocks R b)
   pub own-sum : sumTo (blocks R b) (ownBits b (blocks R b)) ≡ b
 
 module _ (R : List ℕ) where
   pub cut-of : (b : ℕ) → Accepted R → 32 ≤ b → b ≤ 16408 → blocks R b ≤ 64 → Cut R b
-  unfolding sizeOf places
+  unfolding whichSize places
   cut-of b known low high few =
       let some : 0 < blocks R b = blocks-some R known b (omega arith) in
       let first = size-first R known (ceil b (blocks R b)) (need-most R known b (omega arith)) in
-      let top = known .z-high (sizeOf R b) (first .below) in
+      let top = known .z-high (whichSize R b) (first .below) in
       record {
         known = known;
         bits-low = low;
@@ -79,7 +79,7 @@ module _ (R : List ℕ) where
         some = some;
         most = few;
         size = first .below;
-        room = leb-true (ceil b (blocks R b)) (kb R * z R (sizeOf R b)) (first .holds);
+        room = leb-true (ceil b (blocks R b)) (kb R * z R (whichSize R b)) (first .holds);
         least = λ i l. leb-false (ceil b (blocks R b)) (kb R * z R i) (first .none i l);
         product = refl;
         places-high = mul-le-mul (known .kb-high) top;

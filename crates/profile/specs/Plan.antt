@@ -27,15 +27,15 @@ unfoldable pub ownBits : ℕ → ℕ → ℕ → ℕ
 ownBits b c r = cond (ltb r (b % c)) (ceil b c) (b / c)
 
 -- 3. "the smallest z with kb·z ≥ ceil(B/C)": which of the record's sizes it is; they rise, so the first that is large enough
-unfoldable pub sizeFor : List ℕ → ℕ → ℕ
-sizeFor R need = firstTo (t R) (λ i. leb need (kb R * z R i))
+unfoldable pub whichSizeFor : List ℕ → ℕ → ℕ
+whichSizeFor R need = firstTo (t R) (λ i. leb need (kb R * z R i))
 
-unfoldable pub sizeOf : List ℕ → ℕ → ℕ
-sizeOf R b = sizeFor R (ceil b (blocks R b))
+unfoldable pub whichSize : List ℕ → ℕ → ℕ
+whichSize R b = whichSizeFor R (ceil b (blocks R b))
 
 -- "K = kb·z .. one K for all blocks"
 unfoldable pub places : List ℕ → ℕ → ℕ
-places R b = kb R * z R (sizeOf R b)
+places R b = kb R * z R (whichSize R b)
 
 -- "Places past a block's own bits, at its end, are filler"
 unfoldable pub filler : List ℕ → ℕ → ℕ → ℕ

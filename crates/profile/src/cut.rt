@@ -5,7 +5,7 @@ use bits::number::DONE;
 ghost use mathlib.Core.Path.{_≡_};
 ghost use Prim.Native.Nat.{_≤_, _<_};
 ghost use Rattle.profile.specs.Record.{t};
-ghost use Rattle.profile.specs.Plan.{ceil, kmax, blocks, sizeFor};
+ghost use Rattle.profile.specs.Plan.{ceil, kmax, blocks, whichSizeFor};
 ghost use Rattle.profile.specs.Promises.{judged};
 ghost use Rattle.profile.specs.steps.Cutting.{refusal, cutting};
 
@@ -29,7 +29,7 @@ pub fn kmax(profile: &[u8]) -> usize
 // The first of the sizes, and so the smallest, that gives a block this many places. The last gives Kmax.
 fn size_for(profile: &[u8], need: usize) -> usize
     requires { ⌜ judged (now profile) ≡ 0 ⌝ }
-    ensures { λ r. ⌜ (r ≡ sizeFor (now (profile .entry)) need) × (need ≤ kmax (now (profile .entry)) → r < t (now (profile .entry))) ⌝ }
+    ensures { λ r. ⌜ (r ≡ whichSizeFor (now (profile .entry)) need) × (need ≤ kmax (now (profile .entry)) → r < t (now (profile .entry))) ⌝ }
 {
     let kb = inner::kb(profile);
     let t = inner::t(profile);

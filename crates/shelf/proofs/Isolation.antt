@@ -15,7 +15,7 @@ use Rattle.bits.proofs.Ranges.{both, First, first-some, none-any}
 use Rattle.shelf.specs.Shelf.{count, tenant, profile, recordAt, wellFormed}
 use Rattle.shelf.specs.Lookup.{isEntry, has, entryOf, recordOf, lookupNumber, lookupRecord}
 use Rattle.shelf.specs.Promises.{LookedUp, hostedSendNumber, HostedSent, hostedReceiveNumber, HostedReceived}
-use Rattle.shelf.specs.Isolation.{AgreeFor, AlikeFor}
+use Rattle.shelf.specs.Isolation.{Own, Public, AgreeFor, AlikeFor}
 use Rattle.shelf.proofs.Agreement.{hosted-send-agree, hosted-receive-agree}
 
 -- ---- "Two well-formed private shelves that agree on that tenant's records give it the same answers and bits, with all else equal."
@@ -85,23 +85,6 @@ module _ {t : ℕ} {S S' : List ℕ} (formed : wellFormed true S ≡ true) (form
   same-received public p a b = hosted-receive-alike alike public p a b
 
 -- ---- "A tenant is served from its own private records or the public shelf."
-
--- R is the record of an entry of the private shelf whose tenant is t and whose profile number is p
-pub record Own (private : List ℕ) (t p : ℕ) (R : List ℕ) : Type 0 where
-  pub entry : ℕ
-  pub below : entry < count private
-  pub owner : tenant private entry ≡ t
-  pub number : profile private entry ≡ p
-  pub octets : R ≡ recordAt private entry
-
--- the private shelf has none, and R is the record of an entry of the public shelf whose profile number is p
-pub record Public (private public : List ℕ) (t p : ℕ) (R : List ℕ) : Type 0 where
-  pub none : (k : ℕ) → k < count private → tenant private k ≡ t → profile private k ≡ p → ⊥
-  pub entry : ℕ
-  pub below : entry < count public
-  pub owner : tenant public entry ≡ 0
-  pub number : profile public entry ≡ p
-  pub octets : R ≡ recordAt public entry
 
 entry-is : (S : List ℕ) (t p k : ℕ) → isEntry S t p k ≡ true → (tenant S k ≡ t) × (profile S k ≡ p)
 unfolding isEntry

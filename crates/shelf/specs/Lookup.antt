@@ -23,14 +23,16 @@ recordOf S t p = recordAt S (entryOf S t p)
 
 -- 1 "asking tenant is 0", 2 "private shelf not well formed", 3 "public shelf not well formed", 4 "neither shelf has the record";
 -- every tenant of a public shelf is 0
-unfoldable pub lookupNumber : List ℕ → List ℕ → ℕ → ℕ → ℕ
-lookupNumber private public t p =
-    answered
-    ((1, eqb t 0)
+abbrev pub lookupConditions : List ℕ → List ℕ → ℕ → ℕ → List (ℕ × Bool)
+lookupConditions private public t p =
+    (1, eqb t 0)
     ∷ (2, not (wellFormed true private))
     ∷ (3, not (wellFormed false public))
     ∷ (4, not (has private t p || has public 0 p))
-    ∷ [])
+    ∷ []
+
+unfoldable pub lookupNumber : List ℕ → List ℕ → ℕ → ℕ → ℕ
+lookupNumber private public t p = answered (lookupConditions private public t p)
 
 -- "the tenant's own record, else the public record of that number"; with a refusal nothing
 unfoldable pub lookupRecord : List ℕ → List ℕ → ℕ → ℕ → List ℕ

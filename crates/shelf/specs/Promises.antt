@@ -11,7 +11,7 @@ use Rattle.coding.specs.Receiving.{received}
 use Rattle.coding.specs.Promises.{sendNumber, receiveNumber}
 use Rattle.shelf.specs.Lookup.{lookupNumber, lookupRecord, lookupPlace}
 
--- the stretch: its octets, and that they are no copy
+-- the stretch: its octets (`now`), and where they lie (`ptr`), so that it is no copy
 pub record LookedUp (private public : RefT (List ℕ)) (t p : ℕ) (r : RefT (List ℕ)) : Type 0 where
   pub octets : now r ≡ lookupRecord (now private) (now public) t p
   pub place : ptr r ≡ lookupPlace (now private) (now public) t p (ptr private) (ptr public)

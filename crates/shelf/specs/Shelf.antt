@@ -47,7 +47,7 @@ offsetDue S (suc k) = offset S k + size S k
 unfoldable pub entryRight : Bool → List ℕ → ℕ → Bool
 entryRight private S k = tenantRight private (tenant S k) && rises S k && eqb (offset S k) (offsetDue S k)
 
--- the count and the entries stand in the shelf, which "is at most 65,535 octets"
+-- the count and the entries stand in the shelf (which the offsets say too), and it "is at most 65,535 octets"
 unfoldable pub sizesRight : List ℕ → Bool
 sizesRight S = leb 2 (length S) && leb (length S) 65535 && leb (count S) 64 && leb (2 + 8 * count S) (length S)
 
@@ -55,5 +55,6 @@ sizesRight S = leb 2 (length S) && leb (length S) 65535 && leb (count S) 64 && l
 unfoldable pub endsRight : List ℕ → Bool
 endsRight S = eqb (length S) (offsetDue S (count S))
 
+-- `true` asks for a private shelf, `false` for a public one
 unfoldable pub wellFormed : Bool → List ℕ → Bool
 wellFormed private S = sizesRight S && allTo (count S) (entryRight private S) && endsRight S

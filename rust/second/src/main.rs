@@ -1,4 +1,5 @@
-//! The program `second`: answers requests, or writes requests for comparing two implementations.
+//! The program `second`: answers requests, writes requests for comparing two implementations, and
+//! makes the shelves of the worked day.
 
 mod allocation;
 mod answer;
@@ -23,10 +24,13 @@ mod requests;
 mod samples;
 mod send;
 mod shelf;
+mod shelves;
+mod tables;
 mod transfer;
 mod words;
 
 use std::io::{self, BufWriter, Write};
+use std::path::PathBuf;
 use std::process::ExitCode;
 
 use generate::Kind;
@@ -38,6 +42,14 @@ second generate SEED COUNT [KIND]
     writes COUNT lines of requests, good, refused and broken, of all kinds mixed, or only of
     KIND, which is the name of a request; the same SEED gives the same lines, an odd one
     leaves off the last newline, and every 1,000th line is a very long one
+second shelves FOLDER [TO]
+    makes public.shelf and private.shelf from public.txt and private.txt in FOLDER, and writes
+    them there or to the folder TO
+second tables
+    reads the text of 5G.212 from standard input and counts the numbers in each row of its LDPC
+    tables, as docs/TABLES.md has them
+second public
+    reads the same and writes shelves/public.txt
 second help
     writes this
 
@@ -52,6 +64,12 @@ enum Command {
         seed: u64,
         count: u64,
     },
+    Shelves {
+        from: PathBuf,
+        to: PathBuf,
+    },
+    Tables,
+    Public,
     Help,
 }
 
@@ -79,6 +97,10 @@ fn command(arguments: &[String]) -> Option<Command> {
         ["replay"] => Some(Command::Replay),
         ["generate", seed, count] => generate(seed, count, None),
         ["generate", seed, count, kind] => generate(seed, count, Some(kind)),
+        ["shelves", folder] => Some(shelves(folder, folder)),
+        ["shelves", from, to] => Some(shelves(from, to)),
+        ["tables"] => Some(Command::Tables),
+        ["public"] => Some(Command::Public),
         ["help"] => Some(Command::Help),
         _ => None,
     }
@@ -92,6 +114,13 @@ fn generate(seed: &str, count: &str, kind: Option<&str>) -> Option<Command> {
     })
 }
 
+fn shelves(from: &str, to: &str) -> Command {
+    Command::Shelves {
+        from: from.into(),
+        to: to.into(),
+    }
+}
+
 fn run(command: &Command) -> io::Result<()> {
     let mut output = BufWriter::new(io::stdout().lock());
     match command {
@@ -99,6 +128,9 @@ fn run(command: &Command) -> io::Result<()> {
         Command::Generate { kinds, seed, count } => {
             generate::generate(kinds, *seed, *count, &mut output)?;
         }
+        Command::Shelves { from, to } => shelves::make(from, to)?,
+        Command::Tables => tables::counts(&io::read_to_string(io::stdin())?, &mut output)?,
+        Command::Public => tables::public(&io::read_to_string(io::stdin())?, &mut output)?,
         Command::Help => output.write_all(HELP.as_bytes())?,
     }
     // A dropped BufWriter would hide a failed write.

@@ -5,8 +5,8 @@ use std::ops::Range;
 use crate::numbers::{Number, NO_RECORD, PRIVATE_SHELF, PUBLIC_SHELF, TENANT_0};
 use crate::octets::number_at;
 
-const MOST_OCTETS: usize = 65_535;
-const MOST_ENTRIES: usize = 64;
+pub const MOST_OCTETS: usize = 65_535;
+pub const MOST_ENTRIES: usize = 64;
 
 /// The tenant of every entry of a public shelf.
 const PUBLIC: u16 = 0;

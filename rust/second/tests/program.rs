@@ -48,7 +48,14 @@ fn the_examples_of_the_format_are_answered_as_it_says() {
 fn help_says_what_there_is() {
     let output = second(&["help"], Stdio::null());
     let text = String::from_utf8(output.stdout).unwrap();
-    for name in ["second replay", "second generate SEED COUNT", "second help"] {
+    for name in [
+        "second replay",
+        "second generate SEED COUNT",
+        "second shelves FOLDER",
+        "second tables",
+        "second public",
+        "second help",
+    ] {
         assert!(text.contains(name));
     }
     assert!(output.status.success());
@@ -76,6 +83,44 @@ fn generate_writes_lines_of_one_kind() {
 }
 
 #[test]
+fn shelves_are_made_from_their_texts() {
+    let shelves = Path::new(env!("CARGO_MANIFEST_DIR")).join("../../shelves");
+    let made = Path::new(env!("CARGO_TARGET_TMPDIR")).join("shelves");
+    fs::create_dir_all(&made).unwrap();
+    let folders = [shelves.to_str().unwrap(), made.to_str().unwrap()];
+    let output = second(&["shelves", folders[0], folders[1]], Stdio::null());
+    assert!(output.status.success());
+    assert!(output.stdout.is_empty());
+    for name in ["public.shelf", "private.shelf"] {
+        let shipped = fs::read(shelves.join(name)).unwrap();
+        assert_eq!(fs::read(made.join(name)).unwrap(), shipped, "{name}");
+    }
+}
+
+#[test]
+fn a_text_with_a_fault_is_reported_in_one_line() {
+    let folder = Path::new(env!("CARGO_TARGET_TMPDIR")).join("fault");
+    fs::create_dir_all(&folder).unwrap();
+    fs::write(folder.join("public.txt"), "# nothing yet\nz 82\n").unwrap();
+    let output = second(&["shelves", folder.to_str().unwrap()], Stdio::null());
+    assert_eq!(output.status.code(), Some(1));
+    let message = String::from_utf8(output.stderr).unwrap();
+    assert!(message.starts_with("second: "));
+    assert!(message.ends_with("public.txt: line 2: a table stands before the first record\n"));
+    assert!(!folder.join("public.shelf").exists());
+}
+
+#[test]
+fn a_text_without_the_tables_is_reported() {
+    for command in ["tables", "public"] {
+        let output = second(&[command], Stdio::null());
+        assert_eq!(output.status.code(), Some(1));
+        let message = String::from_utf8(output.stderr).unwrap();
+        assert!(message.starts_with("second: table 5.1.3.2-"), "{message}");
+    }
+}
+
+#[test]
 fn other_commands_are_refused() {
     for arguments in [
         &[][..],
@@ -88,6 +133,10 @@ fn other_commands_are_refused() {
         &["generate", "1", "1", "1"],
         &["generate", "1", "1", "plans"],
         &["generate", "1", "1", "plan", "plan"],
+        &["shelves"],
+        &["shelves", "from", "to", "on"],
+        &["tables", "file"],
+        &["public", "file"],
         &["help", "me"],
     ] {
         let output = second(arguments, Stdio::null());

@@ -11,7 +11,8 @@ use borrow.Author.Tests.{not-true, not-false}
 use borrow.Author.Needs.{needs}
 use Rattle.bits.specs.Bits.{packed}
 use Rattle.bits.proofs.Answers.{when-done}
-use Rattle.checksum.specs.Crc.{checks, gen24A}
+use Rattle.checksum.specs.Crc.{gen24A}
+use Rattle.checksum.specs.steps.Testing.{checks}
 use Rattle.profile.specs.Plan.{blockBits}
 use Rattle.profile.proofs.Plans.{plan-passed}
 use Rattle.coding.specs.steps.Sending.{allHaveParity, bitsSent}

@@ -2,7 +2,7 @@
 use mathlib.Core.List.{List}
 use Prim.Native.Nat.{ℕ}
 use Rattle.profile.specs.Record.{z}
-use Rattle.profile.specs.Plan.{kmax, blocks, places, sizeOf}
+use Rattle.profile.specs.Plan.{kmax, blocks, places, whichSize}
 use Rattle.profile.specs.declared.Plan.{Plan}
 
 unfoldable pub refusal : ℕ → Plan
@@ -16,6 +16,6 @@ cutting R b =
       kmax = kmax R;
       blocks = blocks R b;
       places = places R b;
-      z = z R (sizeOf R b);
-      size = sizeOf R b;
+      z = z R (whichSize R b);
+      size = whichSize R b;
     }

@@ -7,7 +7,7 @@ use lib.Seq.{length-take-le, take-all}
 use denote.Ref.{now}
 use borrow.Author.Needs.{needs}
 use Rattle.bits.proofs.Lists.{bits-take}
-use Rattle.checksum.specs.Crc.{checks}
+use Rattle.checksum.specs.steps.Testing.{checks}
 use Rattle.checksum.proofs.inner.is_attached.Statement.{statement}
 use Rattle.checksum.proofs.inner.is_attached.Tie as tie
 

@@ -10,7 +10,7 @@ use borrow.Author.Needs.{needs}
 use Rattle.bits.specs.Ranges.{anyTo}
 use Rattle.bits.proofs.Answers.{when-done}
 use Rattle.profile.specs.Record.{kb, m, z}
-use Rattle.profile.specs.Plan.{blockBits, blocks, ownBits, sizeOf, places, filler}
+use Rattle.profile.specs.Plan.{blockBits, blocks, ownBits, whichSize, places, filler}
 use Rattle.profile.specs.Promises.{planNumber, Planned}
 use Rattle.profile.specs.declared.Plan.{Plan}
 use Rattle.profile.proofs.Plans.{plan-passed, plan-cut}
@@ -32,7 +32,7 @@ module _ (R : List ℕ) (octets nl qm g : ℕ) (p : Plan) (e : planNumber R octe
   places-is : p .places ≡ places R (blockBits octets)
   places-is = plan .places ∙ when-done _ _ _ e
 
-  z-is : p .z ≡ z R (sizeOf R (blockBits octets))
+  z-is : p .z ≡ z R (whichSize R (blockBits octets))
   z-is = plan .z ∙ when-done _ _ _ e
 
   most : (kb' + m') * p .z ≤ 2592
@@ -45,7 +45,7 @@ module _ (R : List ℕ) (octets nl qm g : ℕ) (p : Plan) (e : planNumber R octe
         omega (arith, bits-is, cut .bits-high),
         omega (arith, blocks-is, cut .most),
         most,
-        rw (kb-is, m-is, z-is, places-is) (omega (arith, cut .product, add-mul (kb R) (m R) (z R (sizeOf R (blockBits octets))))),
+        rw (kb-is, m-is, z-is, places-is) (omega (arith, cut .product, add-mul (kb R) (m R) (z R (whichSize R (blockBits octets))))),
         (λ r. rw (bits-is, blocks-is, places-is) (omega (arith, cut .own-most r, cut .room))),
         rw blocks-is a,
       )

@@ -5,7 +5,7 @@ use native.Mathlib.Nat.{mul-le-mul}
 use native.Mathlib.Omega.{arith}
 use denote.Ref.{now}
 use borrow.Author.Needs.{needs}
-use Rattle.profile.specs.Plan.{ceil, blocks, sizeOf, places}
+use Rattle.profile.specs.Plan.{ceil, blocks, whichSize, places}
 use Rattle.profile.specs.steps.Cutting.{cutting}
 use Rattle.profile.proofs.Accepted.{accepted}
 use Rattle.profile.proofs.Plans.{blocks-some, need-most}
@@ -40,7 +40,7 @@ mul-places c =
     omega arith
 
 returns : tie.Need-returns
-unfolding cutting places sizeOf
+unfolding cutting places whichSize
 returns c = cc
 
 pub planned-spec : {M : Type 1} → statement M

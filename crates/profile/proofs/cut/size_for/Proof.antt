@@ -11,7 +11,7 @@ use borrow.Author.Needs.{needs}
 use borrow.Author.Tests.{le-leb, lt-leb}
 use Rattle.bits.proofs.Ranges.{any-none, First, first-none, first-is}
 use Rattle.profile.specs.Record.{kb, t, z}
-use Rattle.profile.specs.Plan.{sizeFor}
+use Rattle.profile.specs.Plan.{whichSizeFor}
 use Rattle.profile.proofs.Accepted.{accepted}
 use Rattle.profile.proofs.Plans.{size-first}
 use Rattle.profile.proofs.cut.size_for.Statement.{statement}
@@ -41,7 +41,7 @@ mul-if1 c =
     omega arith
 
 returns : tie.Need-returns Inv-loop μ-loop
-unfolding sizeFor
+unfolding whichSizeFor
 returns c =
     let R = now (c .before .before .before .before .before .before .before .args .profile) in
     let need = c .before .before .before .before .before .before .before .args .need in
@@ -69,13 +69,13 @@ loop-again c =
     (search needs, below-more (λ (j : ℕ). leb need (k * z R j) ≡ false) (l .i) (l .inv .1) short)
 
 returns-2 : tie.Need-returns-2 Inv-loop μ-loop
-unfolding sizeFor
+unfolding whichSizeFor
 returns-2 c =
     let R = now (c .before .before .before .before .before .args .profile) in
     let need = c .before .before .before .before .before .args .need in
     let none : (j : ℕ) → j < t R → leb need (kb R * z R j) ≡ false =
     λ j h. rw (sym (c .before .before .before .kb .ensures .0)) (c .before .loop .inv .1 j (omega arith)) in
-    let end : c .before .before .t .result ≡ sizeFor R need =
+    let end : c .before .before .t .result ≡ whichSizeFor R need =
     cc (first-none (t R) (λ j. leb need (kb R * z R j)) (any-none (t R) (λ j. leb need (kb R * z R j)) none)) in
     (end, λ h. rw end (size-first R (accepted R (c .before .before .before .before .before .pre)) need h .below))
 

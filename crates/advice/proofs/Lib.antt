@@ -1,0 +1,5 @@
+pub mod Room
+pub mod Numbers
+pub mod NoLess
+pub mod Agreement
+pub mod Worked

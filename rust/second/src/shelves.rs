@@ -1,0 +1,41 @@
+//! Makes shelves from texts that a person can read and edit.
+
+mod text;
+
+use std::fs;
+use std::io;
+use std::path::Path;
+
+use crate::shelf::Side;
+
+/// Each shelf's side, its text and the shelf that is made of it.
+const SHELVES: [(Side, &str, &str); 2] = [
+    (Side::Public, "public.txt", "public.shelf"),
+    (Side::Private, "private.txt", "private.shelf"),
+];
+
+/// Reads both texts in one folder and writes both shelves into another. Nothing is written before
+/// both texts have been read without a fault.
+pub fn make(from: &Path, to: &Path) -> io::Result<()> {
+    let mut made = Vec::new();
+    for (side, text, shelf) in SHELVES {
+        made.push((to.join(shelf), read(&from.join(text), side)?));
+    }
+    for (file, octets) in made {
+        fs::write(&file, octets).map_err(|error| at(&file, &error.to_string()))?;
+    }
+    Ok(())
+}
+
+/// The octets of the shelf that a text describes.
+fn read(file: &Path, side: Side) -> io::Result<Vec<u8>> {
+    let text = fs::read_to_string(file).map_err(|error| at(file, &error.to_string()))?;
+    text::shelf(&text, side).map_err(|fault| at(file, &fault.to_string()))
+}
+
+fn at(file: &Path, what: &str) -> io::Error {
+    io::Error::other(format!("{}: {what}", file.display()))
+}
+
+#[cfg(test)]
+mod tests;

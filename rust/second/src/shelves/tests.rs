@@ -1,0 +1,360 @@
+//! What a text gives, each of its faults with its line, and the shelves of the repository.
+
+use std::fs;
+use std::path::{Path, PathBuf};
+
+use super::text::{self, Fault};
+use super::{make, SHELVES};
+use crate::record::profile;
+use crate::samples::{five_sixths, TOY};
+use crate::shelf::{lookup, Asked, Side};
+
+/// The toy record of document 01, as the text of a public shelf.
+const TOY_TEXT: &str = "\
+# The toy.
+tenant 0 profile 7 kb 1 m 3
+
+z 2 # its only size
+0  1 0 -
+1  0 0 0
+-  1 - 0
+";
+
+/// A folder that is empty at first, for one test.
+fn folder(name: &str) -> PathBuf {
+    let folder = std::env::temp_dir().join(format!("second-{}-{name}", std::process::id()));
+    let _ = fs::remove_dir_all(&folder);
+    fs::create_dir(&folder).unwrap();
+    folder
+}
+
+/// The folder of the repository's shelves.
+fn shipped() -> PathBuf {
+    Path::new(env!("CARGO_MANIFEST_DIR")).join("../../shelves")
+}
+
+fn fault(line: usize, what: &str) -> Result<Vec<u8>, Fault> {
+    let what = what.to_string();
+    Err(Fault { line, what })
+}
+
+fn public(text: &str) -> Result<Vec<u8>, Fault> {
+    text::shelf(text, Side::Public)
+}
+
+/// The toy's text with one line of it (counted from 1) changed.
+fn with_line(line: usize, changed: &str) -> String {
+    let mut lines: Vec<&str> = TOY_TEXT.lines().collect();
+    lines[line - 1] = changed;
+    lines.join("\n")
+}
+
+#[test]
+fn a_text_gives_its_shelf() {
+    let entry = [0, 1, 0, 0, 0, 7, 0, 10, 0, 22];
+    assert_eq!(public(TOY_TEXT), Ok([&entry[..], &TOY].concat()));
+}
+
+#[test]
+fn spaces_comments_and_line_ends_change_nothing() {
+    let wide = TOY_TEXT
+        .replace(' ', " \t ")
+        .replace('\n', "  # more\r\n\n");
+    assert_eq!(public(&wide), public(TOY_TEXT));
+    assert_eq!(public(TOY_TEXT.trim_end()), public(TOY_TEXT));
+}
+
+#[test]
+fn a_text_without_records_gives_the_empty_shelf() {
+    for text in ["", "\n\n", "# only a comment"] {
+        assert_eq!(public(text), Ok(vec![0, 0]));
+        assert_eq!(text::shelf(text, Side::Private), Ok(vec![0, 0]));
+    }
+}
+
+#[test]
+fn a_tenant_belongs_to_its_side() {
+    let private = TOY_TEXT.replace("tenant 0", "tenant 1");
+    assert!(text::shelf(&private, Side::Private).is_ok());
+    assert_eq!(
+        public(&private),
+        fault(2, "the tenant is `1`, and has to be 0")
+    );
+    assert_eq!(
+        text::shelf(TOY_TEXT, Side::Private),
+        fault(
+            2,
+            "the tenant is `0`, and has to be a number from 1 to 65535"
+        )
+    );
+}
+
+#[test]
+fn numbers_keep_to_their_ranges() {
+    for (changed, what) in [
+        (
+            "tenant 0 profile 65536 kb 1 m 3",
+            "the profile number is `65536`, and has to be a number from 0 to 65535",
+        ),
+        (
+            "tenant 0 profile 7 kb 0 m 3",
+            "kb is `0`, and has to be a number from 1 to 20",
+        ),
+        (
+            "tenant 0 profile 7 kb 21 m 3",
+            "kb is `21`, and has to be a number from 1 to 20",
+        ),
+        (
+            "tenant 0 profile 7 kb 1 m 2",
+            "m is `2`, and has to be a number from 3 to 12",
+        ),
+        (
+            "tenant 0 profile 7 kb 1 m 13",
+            "m is `13`, and has to be a number from 3 to 12",
+        ),
+        (
+            "tenant 0 profile 7 kb 1 m three",
+            "m is `three`, and has to be a number from 3 to 12",
+        ),
+    ] {
+        assert_eq!(public(&with_line(2, changed)), fault(2, what));
+    }
+    for z in ["0", "82", "-", "+2"] {
+        assert_eq!(
+            public(&with_line(4, &format!("z {z}"))),
+            fault(
+                4,
+                &format!("z is `{z}`, and has to be a number from 1 to 81")
+            )
+        );
+    }
+}
+
+#[test]
+fn a_row_has_its_numbers_and_shifts_are_below_z() {
+    for (changed, what) in [
+        ("0 0 0", "row 1 has 3 numbers, and kb + m is 4"),
+        ("0 0 0 0 -", "row 1 has 5 numbers, and kb + m is 4"),
+        (
+            "2 0 0 0",
+            "a shift is `2`, and has to be a number from 0 to 1",
+        ),
+        (
+            "0 0 -1 0",
+            "a shift is `-1`, and has to be a number from 0 to 1",
+        ),
+        (
+            "-1 0 0 0",
+            "`-1` begins no row, and no `tenant .. profile .. kb .. m ..` or `z ..` either",
+        ),
+        (
+            "tenant 0 profile 8 kb 1",
+            "`tenant` begins no row, and no `tenant .. profile .. kb .. m ..` or `z ..` either",
+        ),
+    ] {
+        assert_eq!(public(&with_line(6, changed)), fault(6, what));
+    }
+}
+
+#[test]
+fn a_table_has_its_rows_and_is_a_staircase() {
+    let few = "the table has 2 rows, and m is 3";
+    assert_eq!(public(&with_line(7, "")), fault(4, few));
+    assert_eq!(public(&with_line(7, "z 3")), fault(4, few));
+    assert_eq!(
+        public(&with_line(7, "tenant 0 profile 8 kb 1 m 3")),
+        fault(4, few)
+    );
+    assert_eq!(
+        public(&format!("{TOY_TEXT}- - - -")),
+        fault(8, "a row too many: m is 3")
+    );
+    for changed in ["-  0 - 0", "-  1 0 0", "-  - - 0", "-  1 - -"] {
+        assert_eq!(
+            public(&with_line(7, changed)),
+            fault(4, "the table is no staircase")
+        );
+    }
+}
+
+#[test]
+fn every_table_is_judged() {
+    let table = |z: usize, last: &str| format!("z {z}\n0 1 0 -\n0 0 0 0\n- {last} - 0\n");
+    let good = format!("{TOY_TEXT}{}{}", table(3, "1"), table(81, "1"));
+    assert!(public(&good).is_ok());
+    let bad = format!("{TOY_TEXT}{}{}", table(3, "0"), table(81, "1"));
+    assert_eq!(public(&bad), fault(8, "the table is no staircase"));
+    let bad = format!("{TOY_TEXT}{}{}", table(3, "1"), table(81, "0"));
+    assert_eq!(public(&bad), fault(12, "the table is no staircase"));
+    assert_eq!(
+        public(&format!("{TOY_TEXT}{}", table(2, "1"))),
+        fault(8, "z 2 does not stand above z 2 before it")
+    );
+    assert_eq!(
+        public(&format!("{TOY_TEXT}{}{}z 80", table(3, "1"), table(4, "1"))),
+        fault(16, "a record has at most 3 tables")
+    );
+}
+
+#[test]
+fn parts_stand_in_their_order() {
+    for (text, line, what) in [
+        ("\nz 2", 2, "a table stands before the first record"),
+        ("0 0", 1, "a row stands before the first record"),
+        (
+            "tenant 0 profile 7 kb 1 m 3\n- 1 0 -",
+            2,
+            "a row stands before the record's first `z ..`",
+        ),
+        (
+            "tenant 0 profile 7 kb 1 m 3\n",
+            1,
+            "the record has no table",
+        ),
+        (
+            "tenant 0 profile 7 kb 1 m 3\ntenant 0 profile 8 kb 1 m 3\n",
+            1,
+            "the record has no table",
+        ),
+    ] {
+        assert_eq!(public(text), fault(line, what));
+    }
+}
+
+#[test]
+fn records_rise() {
+    let second = |numbers: &str| {
+        let first = TOY_TEXT.replace("tenant 0", "tenant 4");
+        let text = first.clone() + &first.replace("tenant 4 profile 7", numbers);
+        text::shelf(&text, Side::Private)
+    };
+    assert!(second("tenant 4 profile 8").is_ok());
+    assert!(second("tenant 5 profile 0").is_ok());
+    for numbers in [
+        "tenant 4 profile 7",
+        "tenant 4 profile 6",
+        "tenant 3 profile 8",
+    ] {
+        let what = format!("{numbers} does not stand above tenant 4 profile 7 before it");
+        assert_eq!(second(numbers), fault(9, &what));
+    }
+}
+
+/// So many records, each with three tables of kb 20 and this m.
+fn many(count: usize, m: usize) -> String {
+    let row = |row: usize| {
+        let entry = |j: usize| match j {
+            0 if [0, 1, m - 1].contains(&row) => " 0",
+            _ if j > 0 && (row == j || row + 1 == j) => " 0",
+            _ => " -",
+        };
+        "- ".repeat(20) + &(0..m).map(entry).collect::<String>() + "\n"
+    };
+    let rows: String = (0..m).map(row).collect();
+    let record = |profile: usize| {
+        format!("tenant 0 profile {profile} kb 20 m {m}\nz 1\n{rows}z 2\n{rows}z 3\n{rows}")
+    };
+    (0..count).map(record).collect()
+}
+
+#[test]
+fn a_shelf_has_at_most_64_records() {
+    assert!(public(&many(64, 3)).is_ok());
+    assert_eq!(
+        public(&many(65, 3)),
+        fault(64 * 13 + 1, "a shelf has at most 64 records")
+    );
+}
+
+#[test]
+fn a_shelf_has_at_most_65_535_octets() {
+    // 2 + 55 · (8 + 18 + 3 · 12 · 32) octets fit, and 56 records do not.
+    assert_eq!(public(&many(55, 12)).unwrap().len(), 64_792);
+    assert_eq!(
+        public(&many(56, 12)),
+        fault(
+            55 * 40 + 1,
+            "with this record the shelf has 65970 octets, and it may have 65535"
+        )
+    );
+}
+
+#[test]
+fn both_shelves_are_written_and_faults_name_the_file() {
+    let folder = folder("shelves");
+    let private = TOY_TEXT.replace("tenant 0", "tenant 1");
+    fs::write(folder.join("public.txt"), TOY_TEXT).unwrap();
+    let missing = make(&folder, &folder).unwrap_err().to_string();
+    let file = folder.join("private.txt");
+    assert!(missing.starts_with(&format!("{}: ", file.display())));
+    fs::write(&file, "z 2").unwrap();
+    assert_eq!(
+        make(&folder, &folder).unwrap_err().to_string(),
+        format!(
+            "{}: line 1: a table stands before the first record",
+            file.display()
+        )
+    );
+    assert!(!folder.join("public.shelf").exists());
+    fs::write(&file, &private).unwrap();
+    make(&folder, &folder).unwrap();
+    for (side, name, text) in [
+        (Side::Public, "public.shelf", TOY_TEXT),
+        (Side::Private, "private.shelf", &private),
+    ] {
+        let made = fs::read(folder.join(name)).unwrap();
+        assert_eq!(Ok(made), text::shelf(text, side));
+    }
+    fs::remove_dir_all(&folder).unwrap();
+}
+
+#[test]
+fn the_repositorys_shelves_are_what_their_texts_give() {
+    let folder = folder("shipped");
+    make(&shipped(), &folder).unwrap();
+    for (_, _, name) in SHELVES {
+        let made = fs::read(folder.join(name)).unwrap();
+        assert_eq!(made, fs::read(shipped().join(name)).unwrap(), "{name}");
+    }
+    fs::remove_dir_all(&folder).unwrap();
+}
+
+/// What the repository's shelves answer: the side and the record.
+fn shipped_record(tenant: u16, number: u16) -> Option<(Side, Vec<u8>)> {
+    let asked = Asked {
+        private: fs::read(shipped().join("private.shelf")).unwrap(),
+        public: fs::read(shipped().join("public.shelf")).unwrap(),
+        tenant,
+        profile: number,
+    };
+    let found = lookup(&asked).ok()?;
+    Some((found.side, asked.octets(&found).to_vec()))
+}
+
+#[test]
+fn the_repositorys_records_are_accepted_profiles() {
+    for (tenant, number, side, parts) in [
+        (1, 34, Side::Public, (18, 6, 3)),
+        (1, 56, Side::Public, (20, 4, 3)),
+        (3, 34, Side::Private, (4, 4, 1)),
+        (3, 56, Side::Public, (20, 4, 3)),
+        (7, 34, Side::Private, (6, 3, 2)),
+        (7, 70, Side::Private, (2, 3, 1)),
+        (11, 34, Side::Public, (18, 6, 3)),
+        (11, 110, Side::Private, (5, 5, 3)),
+    ] {
+        let (found, record) = shipped_record(tenant, number).unwrap();
+        let profile = profile(&record).unwrap();
+        let told = (profile.kb, profile.m, profile.tables.len());
+        assert_eq!((found, told), (side, parts), "{tenant} {number}");
+    }
+    for (tenant, number) in [(0, 34), (3, 70), (7, 110), (11, 70), (1, 35)] {
+        assert_eq!(shipped_record(tenant, number), None, "{tenant} {number}");
+    }
+}
+
+#[test]
+fn rate_five_sixths_is_the_sample_that_was_copied_apart() {
+    let (_, record) = shipped_record(1, 56).unwrap();
+    assert_eq!(record, five_sixths().octets());
+}
