@@ -68,9 +68,9 @@ pub fn heard_number(profile: &[u8], a: usize, nl: usize, qm: usize, bits: &[u8],
 {
     let octets = octets_of(a);
     let g = CodedBits(bits.len());
-    let number = taken_number(profile, octets, nl, qm, g, octets, room);
-    if number != DONE {
-        return number;
+    let taken = taken_number(profile, octets, nl, qm, g, octets, room);
+    if taken != DONE {
+        return taken;
     }
     if bits::inner::some_over(1, bits) {
         return NO_BIT;

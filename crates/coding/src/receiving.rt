@@ -30,14 +30,14 @@ fn some_lack(
     requires { ⌜ (b ≤ 16408) × (c ≤ 64) × (n ≤ 2592) × (places ≤ n) × ((r : ℕ) → ownBits b c r ≤ places) × Allocated nl qm (g .0) c ⌝ }
     ensures { λ r. ⌜ r ≡ anyTo c (λ i. ltb (share nl qm (g .0) c i .0) (n - (places - ownBits b c i))) ⌝ }
 {
-    let mut r = 0;
-    while r < c {
-        let own = profile::inner::own_bits(b, c, r);
-        let e = allocation::share_of(nl, qm, g, c, r).0;
+    let mut k = 0;
+    while k < c {
+        let own = profile::inner::own_bits(b, c, k);
+        let e = allocation::share_of(nl, qm, g, c, k).0;
         if e < n - (places - own) {
             return true;
         }
-        r += 1;
+        k += 1;
     }
     false
 }

@@ -1,4 +1,4 @@
--- `coding::receiving::some_lack` meets its contract. The loop's invariant: no block before r lacks room. Assumes nothing.
+-- `coding::receiving::some_lack` meets its contract. The loop's invariant: no block before k lacks room. Assumes nothing.
 use mathlib.Core.Path.{_≡_, refl, sym, ap, ap₂, _∙_}
 use mathlib.Core.Bool.{Bool, true, false}
 use Prim.Native.Nat.{ℕ, _-_, _≤_, _<_}
@@ -23,11 +23,11 @@ tested : (b c places n nl qm : ℕ) (g : CodedBits) (r own : ℕ) (e : CodedBits
 tested b c places n nl qm g r own e p q = rw (p, q)
 
 abbrev Inv-loop : tie.InvT-loop
-Inv-loop b c places n nl qm g r₀ r =
-    (r ≤ c) × ((i : ℕ) → i < r → lacks b c places n nl qm g i ≡ false)
+Inv-loop b c places n nl qm g k₀ k =
+    (k ≤ c) × ((i : ℕ) → i < k → lacks b c places n nl qm g i ≡ false)
 
 abbrev μ-loop : tie.MeasureT-loop
-μ-loop b c places n nl qm g r₀ r = c - r
+μ-loop b c places n nl qm g k₀ k = c - k
 
 loop-holds : tie.Need-loop-holds Inv-loop μ-loop
 loop-holds c = (search needs, λ i h. absurd (omega arith))
@@ -47,11 +47,11 @@ sub-if1-2 c = let p = c .before .before .before .before .pre in omega (arith, p 
 returns : tie.Need-returns Inv-loop μ-loop
 returns c = let a = c .before .before .before .before .before .args in
     let i = c .before .before .before .before .loop in
-    sym (any-of (a .c) (lacks (a .b) (a .c) (a .places) (a .n) (a .nl) (a .qm) (a .g)) (i .r) (omega (arith, c .before .before .before))
-    (sym (tested (a .b) (a .c) (a .places) (a .n) (a .nl) (a .qm) (a .g) (i .r) _ _ (c .before .before .own-bits .ensures) (c .before .share-of .ensures)) ∙ lt-ltb _ _ (c .if1 .taken)))
+    sym (any-of (a .c) (lacks (a .b) (a .c) (a .places) (a .n) (a .nl) (a .qm) (a .g)) (i .k) (omega (arith, c .before .before .before))
+    (sym (tested (a .b) (a .c) (a .places) (a .n) (a .nl) (a .qm) (a .g) (i .k) _ _ (c .before .before .own-bits .ensures) (c .before .share-of .ensures)) ∙ lt-ltb _ _ (c .if1 .taken)))
 
-add-r : tie.Need-add-r Inv-loop μ-loop
-add-r c = search needs
+add-k : tie.Need-add-k Inv-loop μ-loop
+add-k c = search needs
 
 loop-less : tie.Need-loop-less Inv-loop μ-loop
 loop-less c = search needs
@@ -60,8 +60,8 @@ loop-again : tie.Need-loop-again Inv-loop μ-loop
 loop-again c = let a = c .before .before .before .before .before .args in
     let i = c .before .before .before .before .loop in (
       omega (arith, c .before .before .before),
-      below-more (λ k. lacks (a .b) (a .c) (a .places) (a .n) (a .nl) (a .qm) (a .g) k ≡ false) (i .r) (i .inv .1)
-          (sym (tested (a .b) (a .c) (a .places) (a .n) (a .nl) (a .qm) (a .g) (i .r) _ _ (c .before .before .own-bits .ensures) (c .before .share-of .ensures)) ∙ le-ltb _ _ (c .if1 .left)),
+      below-more (λ k. lacks (a .b) (a .c) (a .places) (a .n) (a .nl) (a .qm) (a .g) k ≡ false) (i .k) (i .inv .1)
+          (sym (tested (a .b) (a .c) (a .places) (a .n) (a .nl) (a .qm) (a .g) (i .k) _ _ (c .before .before .own-bits .ensures) (c .before .share-of .ensures)) ∙ le-ltb _ _ (c .if1 .left)),
     )
 
 returns-2 : tie.Need-returns-2 Inv-loop μ-loop
@@ -81,7 +81,7 @@ some-lack-spec =
     sub-if1
     sub-if1-2
     returns
-    add-r
+    add-k
     loop-less
     loop-again
     returns-2)
