@@ -4,5 +4,5 @@ pub mod forms;
 pub mod numbers;
 pub mod octets;
 pub mod shown;
-mod values;
+pub mod values;
 pub mod words;

@@ -1,10 +1,10 @@
--- `kuambyte::replay::read_all` meets its contract. The loop's invariant: the reading stands, and each slice keeps its length.
+-- `desk::replay::read_all` meets its contract. The loop's invariant: the reading stands, and each slice keeps its length.
 use mathlib.Core.Path.{_≡_}
 use lib.ListN.{length}
 use borrow.Author.Needs.{needs}
-use Rattle.kuambyte.specs.Room.{Stands}
-use Rattle.kuambyte.proofs.replay.read_all.Statement.{statement}
-use Rattle.kuambyte.proofs.replay.read_all.Tie as tie
+use Rattle.desk.specs.Room.{Stands}
+use Rattle.desk.proofs.replay.read_all.Statement.{statement}
+use Rattle.desk.proofs.replay.read_all.Tie as tie
 
 abbrev Inv-loop : tie.InvT-loop
 Inv-loop line₀ records₀ bits₀ lent₀ chunk₀ out₀ reading₀ turns₀ line records bits lent chunk out reading turns =
@@ -19,6 +19,9 @@ loop-holds c = search needs
 
 read-some-requires : tie.Need-read-some-requires Inv-loop μ-loop
 read-some-requires c κs = search needs
+
+ended-requires : tie.Need-ended-requires Inv-loop μ-loop
+ended-requires c κs = search needs
 
 same-length : tie.Need-same-length Inv-loop μ-loop
 same-length c = search needs
@@ -79,6 +82,7 @@ read-all-spec =
     μ-loop
     loop-holds
     read-some-requires
+    ended-requires
     same-length
     same-length-2
     same-length-3

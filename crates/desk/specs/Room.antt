@@ -3,7 +3,7 @@ use Prim.Native.Nat.{ℕ, _≤_}
 use mathlib.Core.List.{List}
 use lib.ListN.{length}
 use Rattle.requests.specs.Room.{Roomy}
-use Rattle.kuambyte.specs.declared.replay.Reading.{Reading}
+use Rattle.desk.specs.declared.replay.Reading.{Reading}
 
 -- what is held lies within the line, and what waits within the output, which has room for an answer once nothing waits
 pub record Stands (r : Reading) (line lent out : List ℕ) : Type 0 where

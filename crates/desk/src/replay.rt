@@ -1,4 +1,5 @@
 // The command `replay`: requests are read from standard input and answered on standard output.
+use crate::status;
 use libc::STDIN_FILENO;
 use libc::STDOUT_FILENO;
 use requests::answers;
@@ -7,7 +8,7 @@ use text::octets;
 ghost use Prim.Native.Nat.{_≤_, _<_};
 ghost use mathlib.Core.Path.{_≡_};
 ghost use lib.ListN.{length};
-ghost use Rattle.kuambyte.specs.Room.{Stands};
+ghost use Rattle.desk.specs.Room.{Stands};
 ghost use Rattle.requests.specs.Room.{Roomy};
 
 // The octets of the longest line, its newline not counted.
@@ -31,11 +32,13 @@ pub struct Reading {
     pub long: bool,
     // Octets of the output that wait to be written.
     pub waiting: usize,
-    // Whether the input has ended or writing has failed.
+    // Whether the input has ended, or reading or writing has failed.
     pub done: bool,
+    // Whether reading or writing has failed.
+    pub failed: bool,
 }
 
-pub fn replay() {
+pub fn replay() -> i32 {
     let mut line = [0u8; LINE_ROOM];
     let mut records = [0u8; RECORDS_ROOM];
     let mut bits = [0u8; BITS_ROOM];
@@ -49,7 +52,7 @@ pub fn replay() {
         &mut lent,
         &mut chunk,
         &mut out,
-    );
+    )
 }
 
 // A proved loop has to end, and nothing says that the input does. So the turns are counted down
@@ -61,7 +64,7 @@ fn read_all(
     lent: &mut [u8],
     chunk: &mut [u8],
     out: &mut [u8],
-)
+) -> i32
     requires { ⌜ (0 < length (now chunk)) × Roomy 0 (now lent) (now out) ⌝ }
 {
     let mut reading = Reading {
@@ -69,15 +72,25 @@ fn read_all(
         long: false,
         waiting: 0,
         done: false,
+        failed: false,
     };
     let mut turns = u64::MAX;
     while turns > 0 {
         reading = read_some(line, records, bits, lent, chunk, out, reading);
         if reading.done {
-            return;
+            return ended(reading.failed);
         }
         turns -= 1;
     }
+    status::DONE
+}
+
+// The exit status.
+fn ended(failed: bool) -> i32 {
+    if failed {
+        return status::FAILED;
+    }
+    status::DONE
 }
 
 // Reads once, and answers each line that has ended.
@@ -121,11 +134,17 @@ fn finish(got: isize, out: &[u8], reading: Reading) -> Reading
     if after.done {
         return after;
     }
-    if got < 0 {
-        os::fail(b"standard input");
-    }
+    after.failed = has_failed(got);
     after.done = got <= 0;
     after
+}
+
+// Whether reading failed; the reason is said.
+fn has_failed(got: isize) -> bool {
+    if got < 0 {
+        os::fail(b"kuambyte: standard input");
+    }
+    got < 0
 }
 
 // Answers each line that ends in the chunk, and holds what stands behind the last.
@@ -194,6 +213,7 @@ fn answer_line(
         long: false,
         waiting: answers::put(answer, lent, out, ready.waiting),
         done: false,
+        failed: false,
     }
 }
 
@@ -217,7 +237,8 @@ fn flush(out: &[u8], mut reading: Reading) -> Reading
     if io::write_all(STDOUT_FILENO, &out[0..n]) {
         return reading;
     }
-    os::fail(b"standard output");
+    os::fail(b"kuambyte: standard output");
     reading.done = true;
+    reading.failed = true;
     reading
 }

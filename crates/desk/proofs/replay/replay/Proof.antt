@@ -1,12 +1,12 @@
--- `kuambyte::replay::replay` meets its contract. The lengths of the arrays come from a law: to count them out takes seconds.
+-- `desk::replay::replay` meets its contract. The lengths of the arrays come from a law: to count them out takes seconds.
 use Prim.Native.Nat.{ℕ, _+_, _*_, _≤_}
 use mathlib.Core.Path.{_≡_, sym}
 use lib.ListN.{length, replicate, length-replicate}
 use native.Mathlib.Omega.{arith}
 use borrow.Author.Needs.{needs}
 use Rattle.requests.specs.Room.{Roomy}
-use Rattle.kuambyte.proofs.replay.replay.Statement.{statement}
-use Rattle.kuambyte.proofs.replay.replay.Tie as tie
+use Rattle.desk.proofs.replay.replay.Statement.{statement}
+use Rattle.desk.proofs.replay.replay.Tie as tie
 
 zeros : (n : ℕ) → n ≡ length (replicate {A = ℕ} n 0)
 zeros n = sym (length-replicate n 0)

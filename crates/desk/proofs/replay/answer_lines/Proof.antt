@@ -1,12 +1,12 @@
--- `kuambyte::replay::answer_lines` meets its contract. The loop's invariant: the reading stands, and each slice keeps its length.
+-- `desk::replay::answer_lines` meets its contract. The loop's invariant: the reading stands, and each slice keeps its length.
 use Prim.Native.Nat.{_-_}
 use mathlib.Core.Path.{_≡_}
 use lib.ListN.{length}
 use native.Mathlib.Omega.{arith}
 use borrow.Author.Needs.{needs}
-use Rattle.kuambyte.specs.Room.{Stands}
-use Rattle.kuambyte.proofs.replay.answer_lines.Statement.{statement}
-use Rattle.kuambyte.proofs.replay.answer_lines.Tie as tie
+use Rattle.desk.specs.Room.{Stands}
+use Rattle.desk.proofs.replay.answer_lines.Statement.{statement}
+use Rattle.desk.proofs.replay.answer_lines.Tie as tie
 
 abbrev Inv-loop : tie.InvT-loop
 Inv-loop chunk line₀ records₀ bits₀ lent₀ out₀ reading₀ from₀ line records bits lent out reading from =

@@ -1,0 +1,56 @@
+-- `desk::plan::rows` meets its contract. The loop's invariant: the page keeps its length, and the text lies within it.
+use Prim.Native.Nat.{_-_, _≤_}
+use mathlib.Core.Path.{_≡_}
+use lib.ListN.{length}
+use borrow.Author.Needs.{needs}
+use Rattle.desk.proofs.plan.rows.Statement.{statement}
+use Rattle.desk.proofs.plan.rows.Tie as tie
+
+abbrev Inv-loop : tie.InvT-loop
+Inv-loop profile plan octets page₀ from at₀ r₀ page at r = (length page ≡ length page₀) × (at ≤ length page)
+
+abbrev μ-loop : tie.MeasureT-loop
+μ-loop profile plan octets page₀ from at₀ r₀ page at r = plan .blocks - r
+
+loop-holds : tie.Need-loop-holds Inv-loop μ-loop
+loop-holds c = search needs
+
+part-of-requires : tie.Need-part-of-requires Inv-loop μ-loop
+part-of-requires c κs = search needs
+
+add-row : tie.Need-add-row Inv-loop μ-loop
+add-row c = search needs
+
+row-requires : tie.Need-row-requires Inv-loop μ-loop
+row-requires c κs = search needs
+
+add-r : tie.Need-add-r Inv-loop μ-loop
+add-r c = search needs
+
+loop-less : tie.Need-loop-less Inv-loop μ-loop
+loop-less c = search needs
+
+loop-again : tie.Need-loop-again Inv-loop μ-loop
+loop-again c = search needs
+
+same-length : tie.Need-same-length Inv-loop μ-loop
+same-length c = search needs
+
+returns : tie.Need-returns Inv-loop μ-loop
+returns c = search needs
+
+pub rows-spec : {M : Type 1} → statement M
+rows-spec =
+    tie.close
+    (tie.spec
+    Inv-loop
+    μ-loop
+    loop-holds
+    part-of-requires
+    add-row
+    row-requires
+    add-r
+    loop-less
+    loop-again
+    same-length
+    returns)
