@@ -1,4 +1,4 @@
--- The promise agrees: two answers that meet it for the same input are equal. Assumes nothing.
+-- The promise agrees: two answers that meet it for the same input are equal.
 use mathlib.Core.Path.{_≡_, sym, _∙_}
 use mathlib.Core.List.{List}
 use Prim.Native.Nat.{ℕ}

@@ -2,4 +2,3 @@ pub mod Room
 pub mod Numbers
 pub mod NoLess
 pub mod Agreement
-pub mod Worked

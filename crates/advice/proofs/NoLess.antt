@@ -1,5 +1,5 @@
--- "Least means that the G below it would be answered 13 or 10": of the G that 8 does not refuse, the least has room, and none below it has; where
--- 13 is answered, none has. And what receiving answers to so few bits. Assumes nothing.
+-- The least G is the least: of the G that 8 does not refuse, the least has room, and none below it has; where
+-- 13 is answered, none has. And what receiving answers to so few bits.
 use mathlib.Core.Path.{_≡_, refl, sym, _∙_}
 use mathlib.Core.Bool.{Bool, true, false, not, _&&_, _||_}
 use mathlib.Core.List.{List, [], _∷_}
@@ -12,7 +12,7 @@ use lib.Dec.{eqb, ltb, lit<}
 use lib.ListN.{length}
 use Rattle.bits.specs.Bits.{someOver}
 use Rattle.bits.specs.Numbers.{answered}
-use Rattle.bits.specs.Ranges.{firstTo}
+use Rattle.bits.specs.Ranges.{firstBelow}
 use Rattle.bits.proofs.Answers.{applies, passes, passed}
 use Rattle.bits.proofs.Ranges.{neither, equal-or, none-any, First, first-some}
 use Rattle.profile.specs.Record.{within}
@@ -24,7 +24,7 @@ use Rattle.coding.specs.Receiving.{someSentAs, someWithoutRoom}
 use Rattle.coding.specs.Promises.{tooFewPlaces, notOctets, receiveNumber}
 use Rattle.advice.specs.Least.{hasRoom, allocations, roomAt, someRoom, leastBits}
 use Rattle.advice.specs.Promises.{leastNumber}
-use Rattle.advice.specs.steps.Telling.{cutNumber}
+use Rattle.advice.specs.steps.Counting.{cutNumber}
 use Rattle.advice.proofs.Numbers.{cut-passed, least-first, least-last, right}
 
 -- ---- what the number says
@@ -101,7 +101,7 @@ module _ (R : List ℕ) (octets nl qm : ℕ) where
     some : 0 < nl * qm
     some = right R octets nl qm (least-passed e .0) .some
 
-    first : First (allocations nl qm) (roomAt R octets nl qm) (firstTo (allocations nl qm) (roomAt R octets nl qm))
+    first : First (allocations nl qm) (roomAt R octets nl qm) (firstBelow (allocations nl qm) (roomAt R octets nl qm))
     unfolding someRoom
     first = first-some (allocations nl qm) (roomAt R octets nl qm) (least-passed e .1)
 
@@ -112,7 +112,7 @@ module _ (R : List ℕ) (octets nl qm : ℕ) where
     pub less-has-none : (g : ℕ) → g < leastBits R octets nl qm → misallocated nl qm g ≡ false → TenOrThirteen g
     unfolding leastBits
     less-has-none g less allowed =
-        let k = firstTo (allocations nl qm) (roomAt R octets nl qm) in
+        let k = firstBelow (allocations nl qm) (roomAt R octets nl qm) in
         let before : g / (nl * qm) < k = div-lt-iff-lt-mul some .1 (omega (arith, mul-comm k (nl * qm))) in
         without some g allowed (first .none (g / (nl * qm)) before)
 
@@ -120,7 +120,7 @@ module _ (R : List ℕ) (octets nl qm : ℕ) where
     pub least-allowed : misallocated nl qm (leastBits R octets nl qm) ≡ false
     unfolding misallocated leastBits allocations
     least-allowed =
-        let k = firstTo (suc (65536 / (nl * qm))) (roomAt R octets nl qm) in
+        let k = firstBelow (suc (65536 / (nl * qm))) (roomAt R octets nl qm) in
         let order = not (within 1 4 nl) || not (eqb qm 2 || eqb qm 4 || eqb qm 6) in
         let zero = cut-passed R octets nl qm (least-passed e .0) .1 in
         let third = neither (order || ltb 65536 0) (not (eqb (0 % (nl * qm)) 0)) zero .0 in

@@ -1,4 +1,4 @@
--- The number that is answered, by its tests, and what goes with it. Assumes nothing.
+-- The number that is answered, by its tests, and what goes with it.
 use mathlib.Core.Path.{_≡_, sym, ap, _∙_}
 use mathlib.Core.Bool.{Bool, true, false, not}
 use mathlib.Core.List.{List, [], _∷_}
@@ -9,18 +9,19 @@ use Rattle.bits.specs.Numbers.{answered, whenDone}
 use Rattle.bits.proofs.Answers.{applies, passes, passed, none-left, first-part, Refusals, last-part, when-done, when-refused}
 use Rattle.profile.specs.Record.{within, wellFormed}
 use Rattle.profile.specs.Staircase.{staircases}
-use Rattle.profile.specs.Plan.{ceil, blockBits, blocks}
+use Rattle.bits.specs.Counts.{ceil}
+use Rattle.profile.specs.Plan.{blockBits, blocks}
 use Rattle.profile.specs.Promises.{judged, planNumber}
 use Rattle.profile.proofs.Answers.{judged-first, judged-passed, plan-judged}
 use Rattle.profile.proofs.Plans.{Cut, plan-cut}
 use Rattle.coding.specs.Allocation.{misallocated, share}
 use Rattle.coding.specs.steps.Sending.{Allocated}
 use Rattle.coding.proofs.Shares.{allocated}
-use Rattle.coding.proofs.Taken.{seven-is, not-seven}
+use Rattle.coding.proofs.RequestNumber.{seven-is, not-seven}
 use Rattle.advice.specs.Least.{someRoom}
 use Rattle.advice.specs.Promises.{leastNumber, LeastRoom}
 use Rattle.advice.specs.declared.Least.{Least}
-use Rattle.advice.specs.steps.Telling.{cutNumber, refusal, mostSendable}
+use Rattle.advice.specs.steps.Counting.{cutNumber, refusal, mostSendable}
 use Rattle.advice.proofs.Room.{some-room, no-room, least-is, share-is}
 
 module _ (R : List ℕ) (octets nl qm : ℕ) where

@@ -1,5 +1,4 @@
 -- Which allocations have room: with N the first block's, which is the largest, the k-th has room where k is at least C·ceil(N / (N_L·Q_m)).
--- Assumes nothing.
 use mathlib.Core.Path.{_≡_, refl, ap, _∙_}
 use mathlib.Core.Bool.{Bool, true, false, not, _&&_}
 use mathlib.Core.List.{List}
@@ -8,18 +7,18 @@ use native.Mathlib.Nat.{add-mul, mul-comm, mul-one, mul-le-mul-left, mul-div-can
 use native.Mathlib.Omega.{arith}
 use borrow.Author.Tests.{lt-ltb, le-ltb}
 use lib.Dec.{ltb}
-use Rattle.bits.specs.Counts.{placesOf, bitsOf}
+use Rattle.bits.specs.Counts.{ceil, symbolPlacesOf, codedBitsOf}
 use Rattle.bits.proofs.Ranges.{below-or, any-of, any-none, first-is}
 use Rattle.profile.specs.Record.{kb, m, z}
-use Rattle.profile.specs.Plan.{ceil, blockBits, blocks, ownBits, whichSize, filler}
-use Rattle.profile.proofs.Rounding.{ceil-covers, ceil-least, ceil-some, floor-ceil}
+use Rattle.profile.specs.Plan.{blockBits, blocks, ownBits, sizeIndex, filler}
+use Rattle.bits.proofs.Rounding.{ceil-covers, ceil-least, ceil-some, floor-ceil}
 use Rattle.profile.proofs.Plans.{Cut}
 use Rattle.coding.specs.Blocks.{sendable}
 use Rattle.coding.specs.Allocation.{symbolPlaces, share}
 use Rattle.coding.specs.Receiving.{someWithoutRoom}
 use Rattle.coding.specs.Promises.{tooFewPlaces}
 use Rattle.advice.specs.Least.{hasRoom, allocations, roomAt, someRoom, leastBits}
-use Rattle.advice.specs.steps.Telling.{mostSendable}
+use Rattle.advice.specs.steps.Counting.{mostSendable}
 
 -- ---- the first block has the most own bits
 
@@ -38,9 +37,9 @@ module _ (R : List ℕ) (octets : ℕ) (cut : Cut R (blockBits octets)) where
   c = blocks R b
 
   -- a block's places past its own bits and its parity bits are its filler
-  sendable-is : (r : ℕ) → sendable R b r ≡ ownBits b c r + m R * z R (whichSize R b)
+  sendable-is : (r : ℕ) → sendable R b r ≡ ownBits b c r + m R * z R (sizeIndex R b)
   unfolding sendable filler
-  sendable-is r = omega (arith, cut .product, add-mul (kb R) (m R) (z R (whichSize R b)), cut .own-most r, cut .room)
+  sendable-is r = omega (arith, cut .product, add-mul (kb R) (m R) (z R (sizeIndex R b)), cut .own-most r, cut .room)
 
   pub most-sendable : (r : ℕ) → sendable R b r ≤ mostSendable R octets
   unfolding mostSendable
@@ -63,11 +62,11 @@ module _ (R : List ℕ) (octets : ℕ) (cut : Cut R (blockBits octets)) where
 
     -- G = N_L·Q_m·k is k symbol places, and each block is given k / C of them
     places-at : (k : ℕ) → symbolPlaces nl qm (nl * qm * k) .0 ≡ k
-    unfolding symbolPlaces placesOf
+    unfolding symbolPlaces symbolPlacesOf
     places-at k = mul-div-cancel-left k some
 
     share-at : (k r : ℕ) → share nl qm (nl * qm * k) c r .0 ≡ nl * qm * (k / c)
-    unfolding share bitsOf
+    unfolding share codedBitsOf
     share-at k r = ap (λ (n : ℕ). nl * qm * (n / c)) (places-at k)
 
     -- enough symbol places

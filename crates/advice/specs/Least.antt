@@ -1,8 +1,9 @@
--- The least G with room: what an engineer whose bits were refused with 10 or 13 is told. R is the profile's record.
+-- The least G with room: what an engineer whose bits were refused with 10 or 13 is told. It is the service's own; document 01 does not ask for it.
+-- R is the profile's record.
 use mathlib.Core.Bool.{Bool, not, _&&_}
 use mathlib.Core.List.{List}
 use Prim.Native.Nat.{ℕ, suc, _*_, _/_}
-use Rattle.bits.specs.Ranges.{anyTo, firstTo}
+use Rattle.bits.specs.Ranges.{anyBelow, firstBelow}
 use Rattle.coding.specs.Receiving.{someWithoutRoom}
 use Rattle.coding.specs.Promises.{tooFewPlaces}
 
@@ -19,7 +20,7 @@ roomAt R octets nl qm k = hasRoom R octets nl qm (nl * qm * k)
 
 -- some G has room, and the least that has
 unfoldable pub someRoom : List ℕ → ℕ → ℕ → ℕ → Bool
-someRoom R octets nl qm = anyTo (allocations nl qm) (roomAt R octets nl qm)
+someRoom R octets nl qm = anyBelow (allocations nl qm) (roomAt R octets nl qm)
 
 unfoldable pub leastBits : List ℕ → ℕ → ℕ → ℕ → ℕ
-leastBits R octets nl qm = nl * qm * firstTo (allocations nl qm) (roomAt R octets nl qm)
+leastBits R octets nl qm = nl * qm * firstBelow (allocations nl qm) (roomAt R octets nl qm)

@@ -1,6 +1,9 @@
 // What to ask for where bits were refused with 10 or 13: the least G with which every block has room.
 use bits::count::CodedBits;
 use bits::count::SymbolPlaces;
+use bits::count::inner::coded_bits;
+use bits::count::inner::symbol_places;
+use bits::count::inner::symbol_places_for;
 use bits::number::BLOCK_LENGTH;
 use bits::number::DONE;
 use bits::number::NO_ROOM;
@@ -8,13 +11,12 @@ use bits::number::PARAMETER;
 use profile::Plan;
 ghost use mathlib.Core.Path.{_≡_};
 ghost use mathlib.Core.Bool.{_||_};
-ghost use Prim.Native.Nat.{_≤_, _<_};
+ghost use Prim.Native.Nat.{_≤_};
 ghost use lib.Dec.{eqb};
-ghost use Rattle.profile.specs.Plan.{ceil};
-ghost use Rattle.profile.specs.Promises.{Planned, planNumber};
+ghost use Rattle.profile.specs.Promises.{planned, planNumber};
 ghost use Rattle.coding.specs.Allocation.{misallocated};
 ghost use Rattle.advice.specs.Promises.{LeastRoom};
-ghost use Rattle.advice.specs.steps.Telling.{cutNumber, refusal, mostSendable};
+ghost use Rattle.advice.specs.steps.Counting.{cutNumber, refusal, mostSendable};
 
 // The least allocation, all 0 with a refusal.
 pub struct Least {
@@ -85,22 +87,15 @@ fn refused(number: u32) -> Least
 }
 
 // The largest N of a plan: the first block has the most own bits, and so the least filler.
-fn most_sendable(profile: &[u8], plan: Plan, octets: usize) -> usize
-    requires { ⌜ (planNumber (now profile) octets ≡ 0) × Planned (now profile) octets plan ⌝ }
-    ensures { λ r. ⌜ (r ≡ mostSendable (now (profile .entry)) octets) × (r ≤ 2592) ⌝ }
+fn most_sendable(profile: &[u8], plan: Plan, octets: usize) -> CodedBits
+    requires { ⌜ (planNumber (now profile) octets ≡ 0) × (plan ≡ planned (now profile) octets) ⌝ }
+    ensures { λ r. ⌜ (r .0 ≡ mostSendable (now (profile .entry)) octets) × (r .0 ≤ 2592) ⌝ }
 {
     let kb = profile::inner::kb(profile);
     let m = profile::inner::m(profile);
     let own = profile::inner::own_bits(plan.bits, plan.blocks, 0);
-    (kb + m) * plan.z - (plan.places - own)
-}
-
-// The symbol places that carry n bits, where each carries so many.
-fn places_for(n: usize, each: usize) -> usize
-    requires { ⌜ (n ≤ 2592) × (0 < each) × (each ≤ 24) ⌝ }
-    ensures { λ r. ⌜ (r ≡ ceil n each) × (r ≤ 2615) ⌝ }
-{
-    (n + (each - 1)) / each
+    let most = (kb + m) * plan.z - (plan.places - own);
+    CodedBits(most)
 }
 
 // The least G of a block that no number before 13 refuses: each of its C blocks is given the symbol places that the largest N takes.
@@ -111,14 +106,14 @@ fn least_cut(profile: &[u8], octets: usize, nl: usize, qm: usize) -> Least
     let plan = profile::inner::plan_accepted(profile, octets);
     let c = plan.blocks;
     let n = most_sendable(profile, plan, octets);
-    let each = places_for(n, nl * qm);
-    let all = c * each;
-    let most = CodedBits(65536).places(nl, qm);
+    let each = symbol_places_for(n, nl, qm);
+    let all = c * each.0;
+    let most = symbol_places(CodedBits(65536), nl, qm);
     if most.0 < all {
         return refused(NO_ROOM);
     }
-    let bits = SymbolPlaces(all).bits(nl, qm);
-    let share = SymbolPlaces(each).bits(nl, qm);
+    let bits = coded_bits(SymbolPlaces(all), nl, qm);
+    let share = coded_bits(each, nl, qm);
     Least {
         number: DONE,
         bits,

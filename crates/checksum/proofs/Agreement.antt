@@ -1,4 +1,4 @@
--- The promises agree: two answers that meet one for the same input are equal. Assumes nothing.
+-- The promises agree: two answers that meet one for the same input are equal.
 use mathlib.Core.Path.{_≡_, sym, ap₂, _∙_}
 use mathlib.Core.List.{List}
 use Prim.Native.Nat.{ℕ}

@@ -1,4 +1,4 @@
--- What the public calls answer, by their tests. Assumes nothing.
+-- What the public calls answer, by their tests.
 use mathlib.Core.Path.{_≡_, refl, sym, _∙_}
 use mathlib.Core.Bool.{Bool, true, false, cond, not, _||_}
 use mathlib.Core.List.{List, [], _∷_}

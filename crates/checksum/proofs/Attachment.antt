@@ -1,5 +1,5 @@
 -- Section 5.1.1 as it is written there: the bits with their checksum leave the remainder 0, and no other w bits do; and the receiver's
--- test holds of exactly those. Over any width and any generator. Assumes nothing.
+-- test holds of exactly those. Over any width and any generator.
 use mathlib.Core.Path.{_≡_, refl, sym, ap, ap₂, _∙_}
 use mathlib.Core.Bool.{true}
 use mathlib.Core.List.{List, [], _∷_, _++_}
@@ -12,9 +12,9 @@ use lib.Bits.{bitXor, xor-self, xor-zero-r}
 use lib.ListN.{length, take, drop, replicate, length-append, length-drop, take-append-drop}
 use lib.Pow.{pow-pos}
 use lib.Seq.{sets, take-append-seam, drop-append-seam}
-use Rattle.bits.specs.Bits.{AreBits, digits, number, unpacked}
+use Rattle.bits.specs.Bits.{AreBits, digits, valueOf, unpacked}
 use Rattle.bits.proofs.Lists.{bits-drop, sets-append}
-use Rattle.bits.proofs.Digits.{length-digits, digits-bits, digit-over, bit-times, number-digits, digits-number}
+use Rattle.bits.proofs.Digits.{length-digits, digits-bits, digit-over, bit-times, value-digits, digits-value}
 use Rattle.bits.proofs.Octets.{length-unpacked}
 use Rattle.bits.proofs.Xor.{xor-zero}
 use Rattle.checksum.specs.Crc.{reduce, divideOn, remainder, checksum, attached}
@@ -84,9 +84,9 @@ module _ (w g : ℕ) where
   checks-sound b h l e =
       let n = length b - w in
       let d : length (drop n b) ≡ w = length-drop n b ∙ omega arith in
-      let q : checksum w g (take n b) ≡ number (drop n b) = eqb-true (checksum w g (take n b)) (number (drop n b)) e in
+      let q : checksum w g (take n b) ≡ valueOf (drop n b) = eqb-true (checksum w g (take n b)) (valueOf (drop n b)) e in
       sym (take-append-drop n b)
-      ∙ ap (λ (z : List ℕ). take n b ++ z) (sym (digits-number (drop n b) (bits-drop n b h)) ∙ ap₂ digits d (sym q))
+      ∙ ap (λ (z : List ℕ). take n b ++ z) (sym (digits-value (drop n b) (bits-drop n b h)) ∙ ap₂ digits d (sym q))
 
   -- writing the bits of octets and then the checksum's is writing them attached
   pub sets-attached : (out s : List ℕ)
@@ -116,4 +116,4 @@ module _ (w g : ℕ) where
         let c = checksum w g a in
         let n : length (a ++ digits w c) - w ≡ length a = omega (arith, length-append a (digits w c), length-digits w c) in
         rw (n, take-append-seam a (digits w c), drop-append-seam a (digits w c))
-        (eq-eqb c (number (digits w c)) (sym (number-digits w c (checksum-lt a))))
+        (eq-eqb c (valueOf (digits w c)) (sym (value-digits w c (checksum-lt a))))

@@ -1,4 +1,4 @@
--- The long division over any width and any generator: its laws, and that what it leaves is the remainder. Assumes nothing.
+-- The long division over any width and any generator: its laws, and that what it leaves is the remainder.
 use mathlib.Core.Path.{_≡_, refl, sym, ap, ap₂, _∙_}
 use mathlib.Core.List.{List, [], _∷_, _++_}
 use Prim.Native.Nat.{ℕ, zero, suc, _+_, _*_, _/_, _%_, _^_, _<_}
@@ -8,7 +8,7 @@ use lib.Bits.{bitXor, xor-mod, xor-shr, xor-block, xor-shifted, xor-lt, xor-self
 use lib.Dec.{lit<}
 use lib.ListN.{length, replicate}
 use lib.Pow.{pow-pos, split}
-use Rattle.bits.specs.Bits.{AreBits, readOn, number}
+use Rattle.bits.specs.Bits.{AreBits, readOn, valueOf}
 use Rattle.bits.proofs.Xor.{xor-low, xor-assoc, xor-four, xor-twice, xor-times}
 use Rattle.checksum.specs.Crc.{reduce, divideOn, remainder}
 
@@ -131,6 +131,6 @@ module _ (w g : ℕ) (below : g < 2 ^ w) where
       ∙ divided (bitXor (m * 2) q) (reduce w g x) p (reduce-lt w g x below) (λ k. h (suc k))
 
   pub division : (p : List ℕ) → AreBits p
-      → (q : List ℕ) × AreBits q × (number p ≡ bitXor (times q (2 ^ w + g)) (remainder w g p)) × (remainder w g p < 2 ^ w)
-  unfolding number times remainder divisor
+      → (q : List ℕ) × AreBits q × (valueOf p ≡ bitXor (times q (2 ^ w + g)) (remainder w g p)) × (remainder w g p < 2 ^ w)
+  unfolding valueOf times remainder divisor
   division p h = (quotient 0 p, quotient-bits 0 p (pow-pos w) h, divided 0 0 p (pow-pos w) h, divide-lt w g 0 p below (pow-pos w))

@@ -1,4 +1,4 @@
--- The register's fold is the remainder, over any width and any generator; and the loops that feed it. Assumes nothing.
+-- The register's fold is the remainder, over any width and any generator; and the loops that feed it.
 use mathlib.Core.Path.{_≡_, refl, sym, ap, ap₂, _∙_}
 use mathlib.Core.List.{List, [], _∷_, _++_}
 use Prim.Native.Nat.{ℕ, zero, suc, _+_, _-_, _*_, _/_, _%_, _^_, _≤_, _<_}

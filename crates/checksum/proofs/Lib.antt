@@ -4,4 +4,3 @@ pub mod Machine
 pub mod Attachment
 pub mod Answers
 pub mod Agreement
-pub mod Worked

@@ -1,4 +1,4 @@
--- What the code's shifts and masks compute at 32 bits, over any width up to 24. Assumes nothing.
+-- What the code's shifts and masks compute at 32 bits, over any width up to 24.
 use mathlib.Core.Path.{_≡_, sym, ap, ap₂, _∙_, subst}
 use Prim.Native.Nat.{ℕ, _+_, _-_, _*_, _/_, _%_, _^_, _≤_, _<_}
 use native.Mathlib.Nat.{zero-mul, one-mul, mod-eq-of-lt}

@@ -15,7 +15,7 @@ unfoldable pub divideOn : ℕ → ℕ → ℕ → List ℕ → ℕ
 divideOn w g r [] = r
 divideOn w g r (b ∷ p) = divideOn w g (reduce w g (r * 2 + b)) p
 
--- the remainder of the polynomial with the coefficients p, highest first, divided by the generator
+-- the remainder of the polynomial with the coefficients p, highest first, divided by the generator: "start value zero, no reversal, no final change"
 unfoldable pub remainder : ℕ → ℕ → List ℕ → ℕ
 remainder w g p = divideOn w g 0 p
 

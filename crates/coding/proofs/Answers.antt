@@ -1,24 +1,22 @@
--- What the calls answer, by their tests. Assumes nothing.
+-- What the calls answer, by their tests.
 use mathlib.Core.Path.{_≡_, sym, _∙_}
 use mathlib.Core.Bool.{Bool, false, not}
 use mathlib.Core.List.{List, [], _∷_, _++_}
 use Prim.Native.Nat.{ℕ, _≤_}
-use native.Mathlib.Omega.{arith}
 use borrow.Author.Tests.{ltb-false}
 use lib.Dec.{ltb, lit<}
 use lib.ListN.{length, drop}
 use Rattle.bits.specs.Bits.{someOver}
 use Rattle.bits.specs.Numbers.{answered}
 use Rattle.bits.proofs.Answers.{passed, first-part, Refusals, last-part, when-done, when-refused}
-use Rattle.profile.specs.Record.{within, wellFormed}
-use Rattle.profile.specs.Staircase.{staircases}
-use Rattle.profile.specs.Plan.{blockBits, blocks}
-use Rattle.coding.specs.Allocation.{misallocated}
+use Rattle.profile.specs.Record.{within}
+use Rattle.profile.specs.Plan.{blockBits}
+use Rattle.coding.specs.Transport.{transport}
 use Rattle.coding.specs.Matching.{matched}
-use Rattle.coding.specs.Joining.{sent}
+use Rattle.coding.specs.Joining.{radioBits}
 use Rattle.coding.specs.Blocks.{someWithoutParity}
-use Rattle.coding.specs.Promises.{unmatchable, matchNumber, RateMatched, tooFewPlaces, sendNumber, Sent}
-use Rattle.coding.specs.steps.Sending.{takenNumber}
+use Rattle.coding.specs.Promises.{unmatchable, matchNumber, RateMatched, requestConditions, sendNumber, Sent}
+use Rattle.coding.specs.steps.Sending.{requestNumber}
 
 -- ---- rate matching
 
@@ -45,27 +43,25 @@ module _ (coded : List ℕ) (e : ℕ) (out : List ℕ) where
 -- ---- sending
 
 module _ (R block : List ℕ) (nl qm g : ℕ) (out : List ℕ) where
+  abbrev first : List (ℕ × Bool)
+  first = requestConditions R (not (within 1 2048 (length block))) (length block) nl qm g g (length out)
+
+  abbrev fifteen : Bool
+  fifteen = someWithoutParity R (blockBits (length block)) (transport block)
+
   -- what is refused before a block is coded is refused so
-  pub send-first : (takenNumber R (length block) nl qm g g (length out) ≡ 0 → ⊥)
-      → takenNumber R (length block) nl qm g g (length out) ≡ sendNumber R block nl qm g (length out)
-  unfolding takenNumber sendNumber
-  send-first n =
-      sym (first-part
-      ((5, not (wellFormed R)) ∷ (6, not (staircases R)) ∷ (7, not (within 1 2048 (length block))) ∷ (8, misallocated nl qm g)
-      ∷ (9, ltb 64 (blocks R (blockBits (length block)))) ∷ (10, tooFewPlaces R (length block) nl qm g) ∷ (11, ltb (length out) g) ∷ [])
-      ((15, someWithoutParity R block) ∷ []) n)
+  pub send-first : (requestNumber R (length block) nl qm g g (length out) ≡ 0 → ⊥)
+      → requestNumber R (length block) nl qm g g (length out) ≡ sendNumber R block nl qm g (length out)
+  unfolding requestNumber sendNumber
+  send-first n = sym (first-part first ((15, fifteen) ∷ []) n)
 
   -- and where nothing is, 15 is left
-  pub send-last : takenNumber R (length block) nl qm g g (length out) ≡ 0
-      → sendNumber R block nl qm g (length out) ≡ answered ((15, someWithoutParity R block) ∷ [])
-  unfolding takenNumber sendNumber Refusals
-  send-last e =
-      last-part
-      ((5, not (wellFormed R)) ∷ (6, not (staircases R)) ∷ (7, not (within 1 2048 (length block))) ∷ (8, misallocated nl qm g)
-      ∷ (9, ltb 64 (blocks R (blockBits (length block)))) ∷ (10, tooFewPlaces R (length block) nl qm g) ∷ (11, ltb (length out) g) ∷ [])
-      ((15, someWithoutParity R block) ∷ []) tt e
+  pub send-last : requestNumber R (length block) nl qm g g (length out) ≡ 0
+      → sendNumber R block nl qm g (length out) ≡ answered ((15, someWithoutParity R (blockBits (length block)) (transport block)) ∷ [])
+  unfolding requestNumber sendNumber Refusals
+  send-last e = last-part first ((15, fifteen) ∷ []) tt e
 
   pub send-refused : (n : ℕ) → n ≡ sendNumber R block nl qm g (length out) → (n ≡ 0 → ⊥) → Sent R block nl qm g out (record { number = n; count = 0 }) out
   send-refused n found h =
       let refused : sendNumber R block nl qm g (length out) ≡ 0 → ⊥ = λ z. h (found ∙ z) in
-      record { number = found; count = sym (when-refused _ g 0 refused); output = sym (when-refused _ (sent R block nl qm g ++ drop g out) out refused) }
+      record { number = found; count = sym (when-refused _ g 0 refused); output = sym (when-refused _ (radioBits R (blockBits (length block)) (transport block) nl qm g ++ drop g out) out refused) }

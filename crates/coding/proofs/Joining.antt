@@ -1,4 +1,4 @@
--- Blocks' bits one behind the other, and what the output holds after a part of it was lent and came back. Assumes nothing.
+-- Blocks' bits one behind the other, and what the output holds after a part of it was lent and came back.
 use mathlib.Core.Path.{_≡_, refl, sym, ap, ap₂, _∙_}
 use mathlib.Core.List.{List, [], _∷_, _++_, append-assoc, append-nil}
 use Prim.Native.Nat.{ℕ, zero, suc, _+_, _-_, _≤_, _<_}
@@ -8,7 +8,7 @@ use lib.ListN.{length, getD, take, drop, set, replicate, length-append, length-d
 use lib.Dec.{lit<}
 use lib.Seq.{take-all, take-at, take-add, take-append-seam, drop-at, drop-append-seam, drop-drop, drop-cons, set-at}
 use Rattle.bits.specs.Bits.{AreBits}
-use Rattle.bits.specs.Ranges.{sumTo}
+use Rattle.bits.specs.Ranges.{sumBelow}
 use Rattle.bits.proofs.Lists.{bits-append}
 use Rattle.bits.proofs.Ranges.{last-or}
 use Rattle.coding.specs.Joining.{joined, padded}
@@ -34,8 +34,8 @@ part-back at n p old xs ys new e l y =
 -- ---- blocks one behind the other
 
 module _ (f : ℕ → List ℕ) where
-  pub length-joined : (n : ℕ) → length (joined n f) ≡ sumTo n (λ r. length (f r))
-  unfolding joined sumTo
+  pub length-joined : (n : ℕ) → length (joined n f) ≡ sumBelow n (λ r. length (f r))
+  unfolding joined sumBelow
   length-joined zero = refl
   length-joined (suc n) = length-append (joined n f) (f n) ∙ omega (arith, length-joined n)
 
@@ -83,11 +83,11 @@ module _ (f : ℕ → List ℕ) where
   joined-bits (suc n) h k = bits-append (joined n f) (f n) (joined-bits n (λ r l. h r (omega arith))) (h n (omega arith)) k
 
 -- a list cut into parts of so many elements, in order, and joined again
-pub joined-cut : (size : ℕ → ℕ) (s : List ℕ) (n : ℕ) → joined n (λ r. take (size r) (drop (sumTo r size) s)) ≡ take (sumTo n size) s
-unfolding joined sumTo
+pub joined-cut : (size : ℕ → ℕ) (s : List ℕ) (n : ℕ) → joined n (λ r. take (size r) (drop (sumBelow r size) s)) ≡ take (sumBelow n size) s
+unfolding joined sumBelow
 joined-cut size s zero = refl
 joined-cut size s (suc n) =
-    ap (λ (l : List ℕ). l ++ take (size n) (drop (sumTo n size) s)) (joined-cut size s n) ∙ sym (take-add (sumTo n size) (size n) s)
+    ap (λ (l : List ℕ). l ++ take (size n) (drop (sumBelow n size) s)) (joined-cut size s n) ∙ sym (take-add (sumBelow n size) (size n) s)
 
 -- ---- zeros in what is left
 

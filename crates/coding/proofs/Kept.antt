@@ -1,6 +1,6 @@
--- The kept places of a coded block, in order and round again. Assumes nothing.
+-- The kept places of a coded block, in order and round again.
 use mathlib.Core.Path.{_≡_, refl, sym, ap, ap₂, _∙_}
-use mathlib.Core.Bool.{Bool, true, false, _&&_, _||_}
+use mathlib.Core.Bool.{true, false, _&&_}
 use mathlib.Core.List.{List, [], _∷_, _++_, append-assoc, append-nil}
 use Prim.Native.Nat.{ℕ, suc, _+_, _-_, _%_, _≤_, _<_}
 use native.Mathlib.Nat.{mod-eq-of-lt, mod-lt}
@@ -12,7 +12,7 @@ use lib.Seq.{drop-cons, drop-length, set-at, take-at, take-all, getD-take, getD-
 use borrow.Author.Tests.{eq-eqb, ne-eqb, eqb-false, lt-ltb}
 use Rattle.coding.proofs.Places.{list-of, written}
 use Rattle.coding.specs.Promises.{unmatchable}
-use Rattle.coding.specs.Matching.{kept, listTo, matched}
+use Rattle.coding.specs.Matching.{kept, listBelow, matched}
 use Rattle.coding.specs.steps.Places.{Repeated, PutKept, Keeping}
 use Rattle.bits.proofs.Ranges.{equal-or, below-or, neither}
 
@@ -92,7 +92,7 @@ module _ (s a b : List ℕ) (e n : ℕ) (w : Keeping s a e (length s) n b) where
   kept-enough h fits =
       let all : n ≡ e = omega (arith, w .most) in
       let some : e ≤ length (kept s) = below-or (length (kept s)) e (λ l. absurd (omega (arith, count-is, ap length (take-all e (kept s) (omega arith))))) (λ l. l) in
-      let first : take e (kept s) ≡ listTo e (λ k. getD (kept s) (k % length (kept s)) 0) =
+      let first : take e (kept s) ≡ listBelow e (λ k. getD (kept s) (k % length (kept s)) 0) =
       list-of e _ (take e (kept s)) (length-take-le e (kept s) some)
       (λ k l. getD-take e (kept s) k 0 l ∙ ap (λ (j : ℕ). getD (kept s) j 0) (sym (mod-eq-of-lt (omega arith)))) in
       kept-is ∙ ap₂ (λ (x : List ℕ) (j : ℕ). x ++ drop j a) first all

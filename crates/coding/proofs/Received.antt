@@ -1,31 +1,29 @@
 -- Receiving is decided: the received bits are sent by some block of the length that was asked for exactly when the gathered bits are sent as
--- them and carry their checksum, and the block is then the octets of the gathered bits. Assumes nothing.
+-- them and carry their checksum, and the block is then the octets of the gathered bits.
 use mathlib.Core.Path.{_≡_, refl, sym, ap, ap₂, _∙_, subst}
-use mathlib.Core.Bool.{Bool, true, false, not, true≢false, _&&_}
+use mathlib.Core.Bool.{Bool, true, false, not, true≢false}
 use mathlib.Core.List.{List, _++_}
 use Prim.Native.Nat.{ℕ, _+_, _-_, _*_, _^_, _≤_, _<_}
 use native.Mathlib.Omega.{arith}
-use borrow.Author.Tests.{not-true, not-false}
+use borrow.Author.Tests.{not-true}
 use lib.ListN.{length, take, drop, take-append-drop}
 use lib.Seq.{sets, sets-eq, length-take-le}
-use Rattle.bits.specs.Bits.{AreBits, AreOctets, same, digits, number, unpacked, packed}
-use Rattle.bits.specs.Ranges.{anyTo, firstTo}
-use Rattle.bits.proofs.Digits.{length-digits, digits-bits, digits-number, number-lt}
+use Rattle.bits.specs.Bits.{AreBits, AreOctets, same, digits, valueOf, unpacked, packed}
+use Rattle.bits.proofs.Digits.{length-digits, digits-bits, digits-value, value-lt}
 use Rattle.bits.proofs.Lists.{bits-take, same-equal, same-self}
 use Rattle.bits.proofs.Octets.{length-packed, length-unpacked, unpacked-bits, packed-front, packed-octets, packed-unpacked, unpacked-packed}
 use Rattle.bits.proofs.Ranges.{any-of, first-some, both}
-use Rattle.checksum.specs.Crc.{attached, checksum, gen24A}
+use Rattle.checksum.specs.Crc.{attached, gen24A}
 use Rattle.checksum.specs.steps.Testing.{checks}
 use Rattle.checksum.proofs.Attachment.{checks-sound, checks-complete}
 use Rattle.profile.specs.Plan.{blockBits}
 use Rattle.coding.specs.Transport.{transport}
 use Rattle.coding.specs.Blocks.{someWithoutParity}
-use Rattle.coding.specs.Joining.{sent}
-use Rattle.coding.specs.Receiving.{sentAs, nthBlock, someSentAs, received}
-use Rattle.coding.specs.steps.Sending.{allHaveParity, bitsSent}
-use Rattle.coding.specs.steps.Receiving.{gathered, Heard, Decided}
-use Rattle.coding.proofs.Gathered.{gathered-length, gathered-bits, sent-gathered}
-use Rattle.coding.proofs.Transported.{length-transport, transport-bits, generator-24, parity-is-all}
+use Rattle.coding.specs.Joining.{radioBits}
+use Rattle.coding.specs.Receiving.{sentAs, nthBlock, someSentAs, receivedBlock}
+use Rattle.coding.specs.steps.Receiving.{gathered, Receivable, Decided}
+use Rattle.coding.proofs.Gathered.{HasRoom, has-room-of, gathered-length, gathered-bits, sent-gathered}
+use Rattle.coding.proofs.Transported.{length-transport, transport-bits, generator-24}
 
 -- ---- the blocks of a length
 
@@ -40,14 +38,14 @@ module _ (octets : ℕ) where
 
   -- every block of that length is one of them
   module _ (block : List ℕ) (size : length block ≡ octets) (whole : AreOctets block) where
-    pub index-below : number (unpacked block) < 2 ^ (8 * octets)
-    index-below = subst (λ (n : ℕ). number (unpacked block) < 2 ^ n) (length-unpacked block ∙ ap (λ (n : ℕ). 8 * n) size) (number-lt (unpacked block) (unpacked-bits block))
+    pub index-below : valueOf (unpacked block) < 2 ^ (8 * octets)
+    index-below = subst (λ (n : ℕ). valueOf (unpacked block) < 2 ^ n) (length-unpacked block ∙ ap (λ (n : ℕ). 8 * n) size) (value-lt (unpacked block) (unpacked-bits block))
 
-    pub nth-is : nthBlock octets (number (unpacked block)) ≡ block
+    pub nth-is : nthBlock octets (valueOf (unpacked block)) ≡ block
     unfolding nthBlock
     nth-is =
-        let bits : digits (8 * octets) (number (unpacked block)) ≡ unpacked block =
-        ap (λ (n : ℕ). digits n (number (unpacked block))) (sym (length-unpacked block ∙ ap (λ (n : ℕ). 8 * n) size)) ∙ digits-number (unpacked block) (unpacked-bits block) in
+        let bits : digits (8 * octets) (valueOf (unpacked block)) ≡ unpacked block =
+        ap (λ (n : ℕ). digits n (valueOf (unpacked block))) (sym (length-unpacked block ∙ ap (λ (n : ℕ). 8 * n) size)) ∙ digits-value (unpacked block) (unpacked-bits block) in
         ap₂ packed (sym size) bits ∙ packed-unpacked block whole
 
 -- ---- a block from its transport bits
@@ -70,33 +68,42 @@ transport-packed octets u size single e =
 
 -- ---- sent as these bits
 
-module _ (R : List ℕ) (octets nl qm : ℕ) (bits : List ℕ) (h : Heard R octets nl qm bits) where
+module _ (R : List ℕ) (nl qm : ℕ) (bits block : List ℕ) where
+  abbrev size : ℕ
+  size = blockBits (length block)
+
+  pub sent-as-is : sentAs R nl qm bits block ≡ true
+      → (someWithoutParity R (blockBits (length block)) (transport block) ≡ false) × (radioBits R (blockBits (length block)) (transport block) nl qm (length bits) ≡ bits)
+  unfolding sentAs
+  sent-as-is e =
+      let parts = both (not (someWithoutParity R size (transport block))) (same (radioBits R size (transport block) nl qm (length bits)) bits) e in
+      (not-true (someWithoutParity R size (transport block)) (parts .0), same-equal (radioBits R size (transport block) nl qm (length bits)) bits (parts .1))
+
+  pub sent-as-of : someWithoutParity R (blockBits (length block)) (transport block) ≡ false
+      → radioBits R (blockBits (length block)) (transport block) nl qm (length bits) ≡ bits → sentAs R nl qm bits block ≡ true
+  unfolding sentAs
+  sent-as-of p e = rw (p, e) (same-self bits)
+
+module _ (R : List ℕ) (octets nl qm : ℕ) (bits : List ℕ) (h : Receivable R octets nl qm bits) where
   abbrev b : ℕ
   b = blockBits octets
 
   abbrev t : List ℕ
   t = gathered R b nl qm bits
 
-  -- a block that is sent as the received bits has the gathered bits as its transport bits
-  pub block-gathered : (block : List ℕ) → length block ≡ octets → sent R block nl qm (length bits) ≡ bits → transport block ≡ t
-  unfolding sent bitsSent
-  block-gathered block size e =
-      sent-gathered R octets nl qm bits h (transport block) (length-transport block ∙ ap blockBits size) (transport-bits block) e
+  room : HasRoom R b nl qm bits
+  room = has-room-of R octets nl qm bits h
 
-  pub block-only : (block : List ℕ) → length block ≡ octets → AreOctets block → sent R block nl qm (length bits) ≡ bits → block ≡ packed octets t
+  -- a block that is sent as the received bits has the gathered bits as its transport bits
+  pub block-gathered : (block : List ℕ) → length block ≡ octets → radioBits R (blockBits (length block)) (transport block) nl qm (length bits) ≡ bits → transport block ≡ t
+  block-gathered block size e =
+      sent-gathered R b nl qm bits room (transport block) (length-transport block ∙ ap blockBits size) (transport-bits block)
+      (ap (λ (n : ℕ). radioBits R (blockBits n) (transport block) nl qm (length bits)) (sym size) ∙ e)
+
+  pub block-only : (block : List ℕ) → length block ≡ octets → AreOctets block → radioBits R (blockBits (length block)) (transport block) nl qm (length bits) ≡ bits
+      → block ≡ packed octets t
   block-only block size whole e =
       sym (packed-transport block whole) ∙ ap₂ packed size (block-gathered block size e)
-
-  sent-as-is : (block : List ℕ) → sentAs R nl qm bits block ≡ true
-      → (allHaveParity R (transport block) ≡ true) × (sent R block nl qm (length bits) ≡ bits)
-  unfolding sentAs
-  sent-as-is block e =
-      let parts = both (not (someWithoutParity R block)) (same (sent R block nl qm (length bits)) bits) e in
-      (sym (parity-is-all R block) ∙ parts .0, same-equal (sent R block nl qm (length bits)) bits (parts .1))
-
-  sent-as-of : (block : List ℕ) → allHaveParity R (transport block) ≡ true → sent R block nl qm (length bits) ≡ bits → sentAs R nl qm bits block ≡ true
-  unfolding sentAs
-  sent-as-of block p e = rw (parity-is-all R block, p, e) (same-self bits)
 
   -- ---- the search, decided by the gathered bits
 
@@ -106,50 +113,53 @@ module _ (R : List ℕ) (octets nl qm : ℕ) (bits : List ℕ) (h : Heard R octe
   pub some-from : (block : List ℕ) → length block ≡ octets → AreOctets block → sentAs R nl qm bits block ≡ true → someSentAs R octets nl qm bits ≡ true
   unfolding someSentAs among
   some-from block size whole e =
-      any-of (2 ^ (8 * octets)) among (number (unpacked block)) (index-below octets block size whole)
+      any-of (2 ^ (8 * octets)) among (valueOf (unpacked block)) (index-below octets block size whole)
       (ap (sentAs R nl qm bits) (nth-is octets block size whole) ∙ e)
 
   -- the block that is received is sent as these bits
-  pub received-sent : someSentAs R octets nl qm bits ≡ true → sentAs R nl qm bits (received R octets nl qm bits) ≡ true
-  unfolding someSentAs received among
+  pub received-sent : someSentAs R octets nl qm bits ≡ true → sentAs R nl qm bits (receivedBlock R octets nl qm bits) ≡ true
+  unfolding someSentAs receivedBlock among
   received-sent e = first-some (2 ^ (8 * octets)) among e .holds
 
-  pub received-length : length (received R octets nl qm bits) ≡ octets
-  unfolding received
+  pub received-length : length (receivedBlock R octets nl qm bits) ≡ octets
+  unfolding receivedBlock
   received-length = nth-length octets _
 
-  pub received-octets : AreOctets (received R octets nl qm bits)
-  unfolding received
+  pub received-octets : AreOctets (receivedBlock R octets nl qm bits)
+  unfolding receivedBlock
   received-octets = nth-octets octets _
 
-  pub received-is : someSentAs R octets nl qm bits ≡ true → received R octets nl qm bits ≡ packed octets t
-  received-is e = block-only (received R octets nl qm bits) received-length received-octets (sent-as-is _ (received-sent e) .1)
+  pub received-is : someSentAs R octets nl qm bits ≡ true → receivedBlock R octets nl qm bits ≡ packed octets t
+  received-is e = block-only (receivedBlock R octets nl qm bits) received-length received-octets (sent-as-is R nl qm bits _ (received-sent e) .1)
 
   -- the tests that are made decide it, both ways
-  pub tests-enough : allHaveParity R t ≡ true → bitsSent R t nl qm (length bits) ≡ bits → checks 24 gen24A t ≡ true → someSentAs R octets nl qm bits ≡ true
-  unfolding sent bitsSent blockBits
+  pub tests-enough : someWithoutParity R b t ≡ false → radioBits R b t nl qm (length bits) ≡ bits → checks 24 gen24A t ≡ true → someSentAs R octets nl qm bits ≡ true
+  unfolding blockBits
   tests-enough p e s =
-      let long : length t ≡ blockBits octets = gathered-length R octets nl qm bits h in
-      let single = gathered-bits R octets nl qm bits h in
+      let long : length t ≡ blockBits octets = gathered-length R b nl qm bits room in
+      let single = gathered-bits R b nl qm bits room in
       let back : transport (packed octets t) ≡ t = transport-packed octets t long single s in
-      some-from (packed octets t) (length-packed octets t) (packed-octets octets t single (omega arith))
-      (sent-as-of (packed octets t) (ap (allHaveParity R) back ∙ p) (ap (λ (u : List ℕ). bitsSent R u nl qm (length bits)) back ∙ e))
+      let size : length (packed octets t) ≡ octets = length-packed octets t in
+      some-from (packed octets t) size (packed-octets octets t single (omega arith))
+      (sent-as-of R nl qm bits (packed octets t)
+      (ap₂ (λ (n : ℕ) (u : List ℕ). someWithoutParity R (blockBits n) u) size back ∙ p)
+      (ap₂ (λ (n : ℕ) (u : List ℕ). radioBits R (blockBits n) u nl qm (length bits)) size back ∙ e))
 
   pub tests-needed : someSentAs R octets nl qm bits ≡ true
-      → (allHaveParity R t ≡ true) × (bitsSent R t nl qm (length bits) ≡ bits) × (checks 24 gen24A t ≡ true)
-  unfolding sent bitsSent transport
+      → (someWithoutParity R b t ≡ false) × (radioBits R b t nl qm (length bits) ≡ bits) × (checks 24 gen24A t ≡ true)
+  unfolding transport
   tests-needed e =
-      let block = received R octets nl qm bits in
-      let is = sent-as-is block (received-sent e) in
+      let block = receivedBlock R octets nl qm bits in
+      let is = sent-as-is R nl qm bits block (received-sent e) in
       let back : transport block ≡ t = block-gathered block received-length (is .1) in (
-        ap (allHaveParity R) (sym back) ∙ is .0,
-        ap (λ (u : List ℕ). bitsSent R u nl qm (length bits)) (sym back) ∙ is .1,
+        ap₂ (λ (n : ℕ) (u : List ℕ). someWithoutParity R (blockBits n) u) (sym received-length) (sym back) ∙ is .0,
+        ap₂ (λ (n : ℕ) (u : List ℕ). radioBits R (blockBits n) u nl qm (length bits)) (sym received-length) (sym back) ∙ is .1,
         ap (checks 24 gen24A) (sym back) ∙ checks-complete 24 gen24A (generator-24 .below) (unpacked block),
       )
 
   -- ---- what the calls make of it
 
-  pub decided-unsent : (allHaveParity R t ≡ true → bitsSent R t nl qm (length bits) ≡ bits → checks 24 gen24A t ≡ true → ⊥)
+  pub decided-unsent : (someWithoutParity R b t ≡ false → radioBits R b t nl qm (length bits) ≡ bits → checks 24 gen24A t ≡ true → ⊥)
       → (out : List ℕ) → Decided R octets nl qm bits out (record { number = 14; count = 0 }) out
   decided-unsent fails out =
       record {
@@ -157,9 +167,9 @@ module _ (R : List ℕ) (octets nl qm : ℕ) (bits : List ℕ) (h : Heard R octe
         unsent = λ e. (refl, refl, refl);
       }
 
-  pub decided-found : allHaveParity R t ≡ true → bitsSent R t nl qm (length bits) ≡ bits → checks 24 gen24A t ≡ true
+  pub decided-found : someWithoutParity R b t ≡ false → radioBits R b t nl qm (length bits) ≡ bits → checks 24 gen24A t ≡ true
       → (out out' : List ℕ) → octets ≤ length out → out' ≡ sets out 0 (packed octets t) → Decided R octets nl qm bits out (record { number = 0; count = octets }) out'
-  decided-found p e s out out' room w =
+  decided-found p e s out out' enough w =
       let some = tests-enough p e s in
       let long : length (packed octets t) ≡ octets = length-packed octets t in
       let fits : 0 + length (packed octets t) ≤ length out = omega arith in

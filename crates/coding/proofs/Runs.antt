@@ -1,4 +1,4 @@
--- A coded block whose filler lies in one stretch: its bits are two runs and their repetition. Assumes nothing.
+-- A coded block whose filler lies in one stretch: its bits are two runs and their repetition.
 use mathlib.Core.Path.{_≡_, refl, sym, ap, ap₂, _∙_}
 use mathlib.Core.Bool.{Bool, true, false, cond}
 use mathlib.Core.List.{List, [], _∷_, _++_}

@@ -1,4 +1,4 @@
--- The blocks' shares fit into the allocation. Assumes nothing.
+-- The blocks' shares fit into the allocation.
 use mathlib.Core.Path.{_≡_, refl, sym, _∙_}
 use mathlib.Core.Bool.{Bool, true, false, not, _||_}
 use mathlib.Core.Logic.{_⊎_, inl, inr}
@@ -7,37 +7,37 @@ use native.Mathlib.Nat.{div-mul-le-self, mul-comm, mul-assoc, mul-le-mul-left, m
 use native.Mathlib.Omega.{arith}
 use borrow.Author.Tests.{eqb-true, leb-true, ltb-false, not-false}
 use lib.Dec.{eqb, leb, ltb}
-use Rattle.bits.specs.Counts.{placesOf, bitsOf}
-use Rattle.bits.specs.Ranges.{sumTo}
+use Rattle.bits.specs.Counts.{symbolPlacesOf, codedBitsOf}
+use Rattle.bits.specs.Ranges.{sumBelow}
 use Rattle.bits.proofs.Ranges.{both, neither}
 use Rattle.profile.specs.Record.{within}
 use Rattle.coding.specs.Allocation.{misallocated, symbolPlaces, share}
 use Rattle.coding.specs.steps.Sending.{Allocated}
 
-pub sum-mono : (f : ℕ → ℕ) (a b : ℕ) → a ≤ b → sumTo a f ≤ sumTo b f
-unfolding sumTo
+pub sum-mono : (f : ℕ → ℕ) (a b : ℕ) → a ≤ b → sumBelow a f ≤ sumBelow b f
+unfolding sumBelow
 sum-mono f a zero h = rw (zero-of a h) (le-refl 0)
   where
     zero-of : (a : ℕ) → a ≤ 0 → a ≡ 0
     zero-of a h = omega arith
 sum-mono f a (suc b) h = by-order (eq-or-lt-of-le h) (λ l. sum-mono f a b l)
   where
-    by-order : (a ≡ suc b) ⊎ (a < suc b) → (a ≤ b → sumTo a f ≤ sumTo b f) → sumTo a f ≤ sumTo b f + f b
+    by-order : (a ≡ suc b) ⊎ (a < suc b) → (a ≤ b → sumBelow a f ≤ sumBelow b f) → sumBelow a f ≤ sumBelow b f + f b
     by-order (inl e) go = rw e (le-refl _)
     by-order (inr l) go = omega (arith, go (le-of-suc-le-suc l))
 
-sum-const : (n k : ℕ) → sumTo n (λ r. k) ≡ n * k
-unfolding sumTo
+sum-const : (n k : ℕ) → sumBelow n (λ r. k) ≡ n * k
+unfolding sumBelow
 sum-const zero k = sym (zero-mul k)
 sum-const (suc n) k = omega (arith, sum-const n k, suc-mul n k)
 
 module _ (nl qm g c : ℕ) where
-  pub shares-fit : sumTo c (λ r. share nl qm g c r .0) ≤ g
-  unfolding share bitsOf symbolPlaces placesOf
+  pub shares-fit : sumBelow c (λ r. share nl qm g c r .0) ≤ g
+  unfolding share codedBitsOf symbolPlaces symbolPlacesOf
   shares-fit =
       let p = nl * qm in
       let q = g / p / c in
-      let all : sumTo c (λ r. p * q) ≡ c * (p * q) = sum-const c (p * q) in
+      let all : sumBelow c (λ r. p * q) ≡ c * (p * q) = sum-const c (p * q) in
       let one : q * c ≤ g / p = div-mul-le-self (g / p) c in
       let two : g / p * p ≤ g = div-mul-le-self g p in
       let three : p * (q * c) ≤ p * (g / p) = mul-le-mul-left p one in

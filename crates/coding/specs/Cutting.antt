@@ -1,18 +1,21 @@
--- Steps 2 and 3 of document 01: each code block's own bits, and its systematic places. R is the profile's record, b the count of
--- transport bits; how many bits are whose is in the profile's plan.
+-- Steps 2 and 3 of document 01: each code block's own bits, and its systematic places. R is the profile's record, b is B, the count of
+-- transport bits, and bits are these; how many of them are whose is in the profile's plan.
 use mathlib.Core.List.{List, _++_}
-use Prim.Native.Nat.{ℕ}
+use Prim.Native.Nat.{ℕ, _-_}
 use lib.ListN.{length, take, drop, replicate}
-use Rattle.bits.specs.Ranges.{sumTo}
-use Rattle.profile.specs.Plan.{blocks, ownBits, filler}
+use Rattle.bits.specs.Ranges.{sumBelow}
+use Rattle.profile.specs.Plan.{blocks, ownBits, places}
 
 -- blocks carry their bits "in order": where block r's begin
 unfoldable pub ownStart : List ℕ → ℕ → ℕ → ℕ
-ownStart R b r = sumTo r (ownBits b (blocks R b))
+ownStart R b r = sumBelow r (ownBits b (blocks R b))
 
-unfoldable pub own : List ℕ → List ℕ → ℕ → List ℕ
-own R bits r = take (ownBits (length bits) (blocks R (length bits)) r) (drop (ownStart R (length bits) r) bits)
+unfoldable pub own : List ℕ → ℕ → List ℕ → ℕ → List ℕ
+own R b bits r = take (ownBits b (blocks R b) r) (drop (ownStart R b r) bits)
 
 -- "Places past a block's own bits, at its end, are filler"; "a filler place is marked 2"
-unfoldable pub systematic : List ℕ → List ℕ → ℕ → List ℕ
-systematic R bits r = own R bits r ++ replicate (filler R (length bits) r) 2
+unfoldable pub withFiller : ℕ → List ℕ → List ℕ
+withFiller places mine = mine ++ replicate (places - length mine) 2
+
+unfoldable pub systematic : List ℕ → ℕ → List ℕ → ℕ → List ℕ
+systematic R b bits r = withFiller (places R b) (own R b bits r)

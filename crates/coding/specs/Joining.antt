@@ -1,18 +1,18 @@
--- The radio bits (document 01, steps 5 and 6): the blocks' bits one behind the other, and zeros in what is left.
+-- The radio bits (document 01, steps 5 and 6): the blocks' bits one behind the other, and zeros in what is left. R is the profile's record,
+-- b is B, bits the transport bits.
 use mathlib.Core.List.{List, [], _++_}
 use Prim.Native.Nat.{ℕ, zero, suc, _-_}
 use lib.ListN.{length, replicate}
 use Rattle.profile.specs.Plan.{blocks}
-use Rattle.coding.specs.Transport.{transport}
 use Rattle.coding.specs.Blocks.{codedBlock}
 use Rattle.coding.specs.Allocation.{share}
 use Rattle.coding.specs.Matching.{matched}
 
 -- block r's bits: its share of the allocation
-unfoldable pub blockSent : List ℕ → List ℕ → ℕ → ℕ → ℕ → ℕ → List ℕ
-blockSent R bits nl qm g r = matched (codedBlock R bits r) (share nl qm g (blocks R (length bits)) r .0)
+unfoldable pub blockSent : List ℕ → ℕ → List ℕ → ℕ → ℕ → ℕ → ℕ → List ℕ
+blockSent R b bits nl qm g r = matched (codedBlock R b bits r) (share nl qm g (blocks R b) r .0)
 
--- f 0, .., f (n − 1) one behind the other
+-- f 0, .., f (n − 1) one behind the other: "Each block's bits go straight into its own stretch in the middle of the output"
 unfoldable pub joined : ℕ → (ℕ → List ℕ) → List ℕ
 joined zero f = []
 joined (suc n) f = joined n f ++ f n
@@ -21,6 +21,6 @@ joined (suc n) f = joined n f ++ f n
 unfoldable pub padded : ℕ → List ℕ → List ℕ
 padded g bits = bits ++ replicate (g - length bits) 0
 
--- what a transport block is sent as
-unfoldable pub sent : List ℕ → List ℕ → ℕ → ℕ → ℕ → List ℕ
-sent R block nl qm g = padded g (joined (blocks R (length (transport block))) (blockSent R (transport block) nl qm g))
+-- what transport bits are sent as
+unfoldable pub radioBits : List ℕ → ℕ → List ℕ → ℕ → ℕ → ℕ → List ℕ
+radioBits R b bits nl qm g = padded g (joined (blocks R b) (blockSent R b bits nl qm g))

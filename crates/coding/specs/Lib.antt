@@ -7,5 +7,4 @@ pub mod Joining
 pub mod Receiving
 pub mod Promises
 pub mod RoundTrip
-pub mod Worked
 pub mod steps

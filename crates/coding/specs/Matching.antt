@@ -11,10 +11,10 @@ kept [] = []
 kept (x ∷ coded) = cond (eqb x 2) (kept coded) (x ∷ kept coded)
 
 -- f 0, .., f (n − 1)
-unfoldable pub listTo : ℕ → (ℕ → ℕ) → List ℕ
-listTo zero f = []
-listTo (suc n) f = listTo n f ++ (f n ∷ [])
+unfoldable pub listBelow : ℕ → (ℕ → ℕ) → List ℕ
+listBelow zero f = []
+listBelow (suc n) f = listBelow n f ++ (f n ∷ [])
 
 -- "A block's E bits are its coded places in order from the first, filler skipped, starting again at the first after the last"
 unfoldable pub matched : List ℕ → ℕ → List ℕ
-matched coded e = listTo e (λ k. getD (kept coded) (k % length (kept coded)) 0)
+matched coded e = listBelow e (λ k. getD (kept coded) (k % length (kept coded)) 0)

@@ -6,15 +6,18 @@ use Prim.Native.Nat.{ℕ, _*_, _^_}
 use lib.Dec.{ltb}
 use lib.ListN.{length}
 use Rattle.bits.specs.Bits.{same, digits, packed}
-use Rattle.bits.specs.Ranges.{anyTo, firstTo}
+use Rattle.bits.specs.Ranges.{anyBelow, firstBelow}
 use Rattle.profile.specs.Plan.{blockBits, blocks}
+use Rattle.coding.specs.Transport.{transport}
 use Rattle.coding.specs.Blocks.{someWithoutParity, sendable}
 use Rattle.coding.specs.Allocation.{share}
-use Rattle.coding.specs.Joining.{sent}
+use Rattle.coding.specs.Joining.{radioBits}
 
 -- a transport block is sent as these bits: it can be sent, and is sent so
 unfoldable pub sentAs : List ℕ → ℕ → ℕ → List ℕ → List ℕ → Bool
-sentAs R nl qm bits block = not (someWithoutParity R block) && same (sent R block nl qm (length bits)) bits
+sentAs R nl qm bits block =
+    not (someWithoutParity R (blockBits (length block)) (transport block))
+    && same (radioBits R (blockBits (length block)) (transport block) nl qm (length bits)) bits
 
 -- the transport blocks of so many octets: the n-th, for n from 0 to 2^(8·octets) − 1, has the digits of n as its bits
 unfoldable pub nthBlock : ℕ → ℕ → List ℕ
@@ -22,13 +25,13 @@ nthBlock octets n = packed octets (digits (8 * octets) n)
 
 -- "some transport block of that length" is sent as these bits
 unfoldable pub someSentAs : List ℕ → ℕ → ℕ → ℕ → List ℕ → Bool
-someSentAs R octets nl qm bits = anyTo (2 ^ (8 * octets)) (λ n. sentAs R nl qm bits (nthBlock octets n))
+someSentAs R octets nl qm bits = anyBelow (2 ^ (8 * octets)) (λ n. sentAs R nl qm bits (nthBlock octets n))
 
--- "It then writes the octets": those of the block that is
-unfoldable pub received : List ℕ → ℕ → ℕ → ℕ → List ℕ → List ℕ
-received R octets nl qm bits = nthBlock octets (firstTo (2 ^ (8 * octets)) (λ n. sentAs R nl qm bits (nthBlock octets n)))
+-- "It then writes the octets": those of the first block that is sent as these bits; where every block has room there is one at most
+unfoldable pub receivedBlock : List ℕ → ℕ → ℕ → ℕ → List ℕ → List ℕ
+receivedBlock R octets nl qm bits = nthBlock octets (firstBelow (2 ^ (8 * octets)) (λ n. sentAs R nl qm bits (nthBlock octets n)))
 
 -- 13: "E below N in some block"
 unfoldable pub someWithoutRoom : List ℕ → ℕ → ℕ → ℕ → ℕ → Bool
 someWithoutRoom R octets nl qm g =
-    anyTo (blocks R (blockBits octets)) (λ r. ltb (share nl qm g (blocks R (blockBits octets)) r .0) (sendable R (blockBits octets) r))
+    anyBelow (blocks R (blockBits octets)) (λ r. ltb (share nl qm g (blocks R (blockBits octets)) r .0) (sendable R (blockBits octets) r))

@@ -1,14 +1,15 @@
--- What the third demand speaks of: room in every block, and a block that is sent as these bits.
+-- What the third demand speaks of: room in every block, and bits that no block is sent as.
 use mathlib.Core.Path.{_≡_}
 use mathlib.Core.Bool.{false}
 use mathlib.Core.List.{List}
 use Prim.Native.Nat.{ℕ}
 use lib.ListN.{length, take}
+use Rattle.bits.specs.Bits.{AreOctets}
 use Rattle.bits.specs.declared.number.Written.{Written}
 use Rattle.profile.specs.Promises.{planNumber}
 use Rattle.coding.specs.Allocation.{misallocated}
 use Rattle.coding.specs.Receiving.{someWithoutRoom}
-use Rattle.coding.specs.Promises.{tooFewPlaces, Sent}
+use Rattle.coding.specs.Promises.{tooFewPlaces}
 
 -- "Take an accepted profile, block length and allocation in which every code block has room for all its coded bits that are not filler"
 pub record Roomy (R : List ℕ) (octets nl qm g : ℕ) : Type 0 where
@@ -17,11 +18,9 @@ pub record Roomy (R : List ℕ) (octets nl qm g : ℕ) : Type 0 where
   pub enough : tooFewPlaces R octets nl qm g ≡ false
   pub room : someWithoutRoom R octets nl qm g ≡ false
 
--- a transport block is sent as these bits: a call of `send` that keeps its promise answers 0 and leaves them in front
-pub record SentAs (R : List ℕ) (nl qm : ℕ) (block bits : List ℕ) : Type 0 where
-  pub out : List ℕ
-  pub result : Written
-  pub exit : List ℕ
-  pub promise : Sent R block nl qm (length bits) out result exit
-  pub done : result .number ≡ 0
-  pub bits-are : take (length bits) exit ≡ bits
+-- "no transport block of that length is sent as them": no call that keeps its promise answers 0 and leaves these bits in front. `promised` is
+-- what the call promises of a block, an output, its answer and the output after.
+abbrev pub NoneSentAs : (List ℕ → List ℕ → Written → List ℕ → Type 0) → ℕ → List ℕ → Type 0
+NoneSentAs promised octets bits =
+    (block : List ℕ) → AreOctets block → length block ≡ octets
+    → (out : List ℕ) (r : Written) (out' : List ℕ) → promised block out r out' → r .number ≡ 0 → take (length bits) out' ≡ bits → ⊥

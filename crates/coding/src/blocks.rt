@@ -1,5 +1,6 @@
 // Steps 3 to 6 of document 01 for one code block: its places, its parity bits, and its share of the radio bits.
 use crate::matching;
+use bits::count::CodedBits;
 use profile::Plan;
 ghost use mathlib.Core.Path.{_≡_};
 ghost use mathlib.Core.Bool.{true};
@@ -10,9 +11,10 @@ ghost use Rattle.bits.specs.Bits.{AreBits};
 ghost use Rattle.parity.specs.Coded.{hasParity, coded};
 ghost use Rattle.parity.specs.steps.Grouped.{Solution};
 ghost use Rattle.profile.specs.Record.{kb, m, table};
+ghost use Rattle.coding.specs.Cutting.{withFiller};
 ghost use Rattle.coding.specs.Matching.{matched};
-ghost use Rattle.coding.specs.steps.Sending.{Ready, Marked, cutPlaces};
-ghost use Rattle.coding.specs.steps.Receiving.{Planning, copiesAgree, blockSentAs};
+ghost use Rattle.coding.specs.steps.Sending.{SomePlan, Ready, Marked};
+ghost use Rattle.coding.specs.steps.Receiving.{copiesAgree, blockSentAs};
 
 // Marks the places from `from` to `to` as filler.
 fn mark(word: &mut [u8], from: usize, to: usize)
@@ -29,16 +31,16 @@ fn mark(word: &mut [u8], from: usize, to: usize)
 // Lays a block's own bits and its filler into the word, and its parity bits behind them.
 fn code(profile: &[u8], plan: Plan, bits: &[u8], start: usize, own: usize, word: &mut [u8])
     requires { ⌜ Ready (now profile) (now bits) plan × (own ≤ plan .places) × (start + own ≤ length (now bits)) × (length (now word) ≡ (kb (now profile) + m (now profile)) * plan .z) ⌝ }
-    ensures { λ _. ⌜ Solution (table (now (profile .entry)) (plan .size)) (kb (now (profile .entry))) (m (now (profile .entry))) (plan .z) (cutPlaces (now (bits .entry)) start own (plan .places)) (now (word .exit)) ⌝ }
+    ensures { λ _. ⌜ Solution (table (now (profile .entry)) (plan .index)) (kb (now (profile .entry))) (m (now (profile .entry))) (plan .z) (withFiller (plan .places) (take own (drop start (now (bits .entry))))) (now (word .exit)) ⌝ }
 {
     let places = plan.places;
-    let size = plan.size;
+    let index = plan.index;
     let z = plan.z;
     matching::lay(bits, start, word, 0, own);
     mark(word, own, places);
     let kb = profile::inner::kb(profile);
     let m = profile::inner::m(profile);
-    let table = profile::inner::table(profile, size);
+    let table = profile::inner::table(profile, index);
     parity::inner::code(table, kb, m, z, word);
 }
 
@@ -52,14 +54,14 @@ pub fn has_parity(
     word: &mut [u8],
 ) -> bool
     requires { ⌜ Ready (now profile) (now bits) plan × (own ≤ plan .places) × (start + own ≤ length (now bits)) × (length (now word) ≡ (kb (now profile) + m (now profile)) * plan .z) ⌝ }
-    ensures { λ r. ⌜ r ≡ hasParity (table (now (profile .entry)) (plan .size)) (kb (now (profile .entry))) (m (now (profile .entry))) (plan .z) (cutPlaces (now (bits .entry)) start own (plan .places)) ⌝ }
+    ensures { λ r. ⌜ r ≡ hasParity (table (now (profile .entry)) (plan .index)) (kb (now (profile .entry))) (m (now (profile .entry))) (plan .z) (withFiller (plan .places) (take own (drop start (now (bits .entry))))) ⌝ }
 {
     code(profile, plan, bits, start, own, word);
-    let size = plan.size;
+    let index = plan.index;
     let z = plan.z;
     let kb = profile::inner::kb(profile);
     let m = profile::inner::m(profile);
-    let table = profile::inner::table(profile, size);
+    let table = profile::inner::table(profile, index);
     parity::inner::checks(table, kb, m, z, word)
 }
 
@@ -70,12 +72,12 @@ pub fn send_block(
     bits: &[u8],
     start: usize,
     own: usize,
-    e: usize,
+    e: CodedBits,
     word: &mut [u8],
     out: &mut [u8],
 )
-    requires { ⌜ Ready (now profile) (now bits) plan × (own ≤ plan .places) × (start + own ≤ length (now bits)) × (length (now word) ≡ (kb (now profile) + m (now profile)) * plan .z) × (e ≤ length (now out)) × (hasParity (table (now profile) (plan .size)) (kb (now profile)) (m (now profile)) (plan .z) (cutPlaces (now bits) start own (plan .places)) ≡ true) ⌝ }
-    ensures { λ _. ⌜ now (out .exit) ≡ matched (coded (table (now (profile .entry)) (plan .size)) (kb (now (profile .entry))) (m (now (profile .entry))) (plan .z) (cutPlaces (now (bits .entry)) start own (plan .places))) e ++ drop e (now (out .entry)) ⌝ }
+    requires { ⌜ Ready (now profile) (now bits) plan × (own ≤ plan .places) × (start + own ≤ length (now bits)) × (length (now word) ≡ (kb (now profile) + m (now profile)) * plan .z) × (e .0 ≤ length (now out)) × (hasParity (table (now profile) (plan .index)) (kb (now profile)) (m (now profile)) (plan .z) (withFiller (plan .places) (take own (drop start (now bits)))) ≡ true) ⌝ }
+    ensures { λ _. ⌜ now (out .exit) ≡ matched (coded (table (now (profile .entry)) (plan .index)) (kb (now (profile .entry))) (m (now (profile .entry))) (plan .z) (withFiller (plan .places) (take own (drop start (now (bits .entry)))))) (e .0) ++ drop (e .0) (now (out .entry)) ⌝ }
 {
     code(profile, plan, bits, start, own, word);
     let places = plan.places;
@@ -83,14 +85,15 @@ pub fn send_block(
 }
 
 // Whether every place past the first n holds what stands n places before it. It looks at every place, with no early way out, so that the loop is straight.
-fn copies_agree(s: &[u8], n: usize) -> bool
-    requires { ⌜ n ≤ length (now s) ⌝ }
-    ensures { λ r. ⌜ r ≡ copiesAgree n (now (s .entry)) ⌝ }
+fn copies_agree(s: &[u8], n: CodedBits) -> bool
+    requires { ⌜ n .0 ≤ length (now s) ⌝ }
+    ensures { λ r. ⌜ r ≡ copiesAgree (n .0) (now (s .entry)) ⌝ }
 {
+    let first = n.0;
     let mut agree = true;
-    let mut k = n;
+    let mut k = first;
     while k < s.len() {
-        agree = agree & (s[k] == s[k - n]);
+        agree = agree & (s[k] == s[k - first]);
         k += 1;
     }
     agree
@@ -99,7 +102,7 @@ fn copies_agree(s: &[u8], n: usize) -> bool
 // Lays the first bits of a stretch into the word: own bits, filler, and the parity bits behind them.
 fn gather(s: &[u8], own: usize, places: usize, word: &mut [u8])
     requires { ⌜ (own ≤ places) × (places ≤ length (now word)) × (own + (length (now word) - places) ≤ length (now s)) ⌝ }
-    ensures { λ _. ⌜ now (word .exit) ≡ cutPlaces (now (s .entry)) 0 own places ++ take (length (now (word .entry)) - places) (drop own (now (s .entry))) ⌝ }
+    ensures { λ _. ⌜ now (word .exit) ≡ withFiller places (take own (now (s .entry))) ++ take (length (now (word .entry)) - places) (drop own (now (s .entry))) ⌝ }
 {
     matching::lay(s, 0, word, 0, own);
     mark(word, own, places);
@@ -110,19 +113,19 @@ fn gather(s: &[u8], own: usize, places: usize, word: &mut [u8])
 // Whether a stretch is what the block whose own bits stand at its beginning is sent as: equal copies, and all parity rows. `word` is room
 // for one coded block.
 pub fn is_sent_as(profile: &[u8], plan: Plan, s: &[u8], own: usize, word: &mut [u8]) -> bool
-    requires { ⌜ Planning (now profile) plan × (own ≤ plan .places) × (length (now word) ≡ (kb (now profile) + m (now profile)) * plan .z) × (own + (length (now word) - plan .places) ≤ length (now s)) × AreBits (now s) ⌝ }
-    ensures { λ r. ⌜ r ≡ blockSentAs (table (now (profile .entry)) (plan .size)) (kb (now (profile .entry))) (m (now (profile .entry))) (plan .z) (cutPlaces (now (s .entry)) 0 own (plan .places)) (now (s .entry)) ⌝ }
+    requires { ⌜ SomePlan (now profile) plan × (own ≤ plan .places) × (length (now word) ≡ (kb (now profile) + m (now profile)) * plan .z) × (own + (length (now word) - plan .places) ≤ length (now s)) × AreBits (now s) ⌝ }
+    ensures { λ r. ⌜ r ≡ blockSentAs (table (now (profile .entry)) (plan .index)) (kb (now (profile .entry))) (m (now (profile .entry))) (plan .z) (withFiller (plan .places) (take own (now (s .entry)))) (now (s .entry)) ⌝ }
 {
     let places = plan.places;
-    let size = plan.size;
+    let index = plan.index;
     let z = plan.z;
-    let n = own + (word.len() - places);
+    let n = CodedBits(own + (word.len() - places));
     if !copies_agree(s, n) {
         return false;
     }
     gather(s, own, places, word);
     let kb = profile::inner::kb(profile);
     let m = profile::inner::m(profile);
-    let table = profile::inner::table(profile, size);
+    let table = profile::inner::table(profile, index);
     parity::inner::checks(table, kb, m, z, word)
 }

@@ -14,20 +14,19 @@ ghost use mathlib.Core.Path.{_≡_};
 ghost use Prim.Native.Nat.{_≤_};
 ghost use lib.ListN.{length};
 ghost use Rattle.coding.specs.Promises.{RateMatched, Sent, Received};
-ghost use Rattle.coding.specs.steps.Sending.{takenNumber};
-ghost use Rattle.coding.specs.steps.Receiving.{Heard, Decided};
+ghost use Rattle.coding.specs.steps.Sending.{requestNumber};
+ghost use Rattle.coding.specs.steps.Receiving.{Receivable, Decided};
 
 // Rate-matches one coded block, whose marks may stand anywhere, to e bits.
 pub fn rate_match(coded: &[u8], e: CodedBits, out: &mut [u8]) -> Written
     ensures { λ r. ⌜ RateMatched (now (coded .entry)) (e .0) (now (out .entry)) r (now (out .exit)) ⌝ }
 {
-    let n = e.0;
-    let number = matching::match_number(coded, n, out.len());
+    let number = matching::match_number(coded, e, out.len());
     if number != DONE {
         return Written { number, count: 0 };
     }
-    matching::fill(coded, n, out);
-    Written { number, count: n }
+    matching::fill(coded, e, out);
+    Written { number, count: e.0 }
 }
 
 // Sends a block that no number before 15 refuses; `bits` is room for its transport bits.
@@ -40,7 +39,7 @@ fn send_through(
     bits: &mut [u8],
     out: &mut [u8],
 ) -> Written
-    requires { ⌜ (takenNumber (now profile) (length (now block)) nl qm (g .0) (g .0) (length (now out)) ≡ 0) × (16408 ≤ length (now bits)) ⌝ }
+    requires { ⌜ (requestNumber (now profile) (length (now block)) nl qm (g .0) (g .0) (length (now out)) ≡ 0) × (16408 ≤ length (now bits)) ⌝ }
     ensures { λ r. ⌜ Sent (now (profile .entry)) (now (block .entry)) nl qm (g .0) (now (out .entry)) r (now (out .exit)) ⌝ }
 {
     let plan = profile::inner::plan_accepted(profile, block.len());
@@ -50,7 +49,7 @@ fn send_through(
 }
 
 // The longest block has 16,408 transport bits.
-fn send_taken(
+fn send_accepted(
     profile: &[u8],
     block: &[u8],
     nl: usize,
@@ -58,7 +57,7 @@ fn send_taken(
     g: CodedBits,
     out: &mut [u8],
 ) -> Written
-    requires { ⌜ takenNumber (now profile) (length (now block)) nl qm (g .0) (g .0) (length (now out)) ≡ 0 ⌝ }
+    requires { ⌜ requestNumber (now profile) (length (now block)) nl qm (g .0) (g .0) (length (now out)) ≡ 0 ⌝ }
     ensures { λ r. ⌜ Sent (now (profile .entry)) (now (block .entry)) nl qm (g .0) (now (out .entry)) r (now (out .exit)) ⌝ }
 {
     let mut bits = [0u8; 16408];
@@ -76,11 +75,11 @@ pub fn send(
 ) -> Written
     ensures { λ r. ⌜ Sent (now (profile .entry)) (now (block .entry)) nl qm (g .0) (now (out .entry)) r (now (out .exit)) ⌝ }
 {
-    let number = numbers::taken_number(profile, block.len(), nl, qm, g, g.0, out.len());
+    let number = numbers::request_number(profile, block.len(), nl, qm, g, g.0, out.len());
     if number != DONE {
         return Written { number, count: 0 };
     }
-    send_taken(profile, block, nl, qm, g, out)
+    send_accepted(profile, block, nl, qm, g, out)
 }
 
 // Decides on bits that no number before 14 refuses; `room` is room for the transport bits. Nothing is written before everything is tested.
@@ -93,7 +92,7 @@ fn receive_through(
     room: &mut [u8],
     out: &mut [u8],
 ) -> Written
-    requires { ⌜ Heard (now profile) octets nl qm (now bits) × (16408 ≤ length (now room)) × (octets ≤ length (now out)) ⌝ }
+    requires { ⌜ Receivable (now profile) octets nl qm (now bits) × (16408 ≤ length (now room)) × (octets ≤ length (now out)) ⌝ }
     ensures { λ r. ⌜ Decided (now (profile .entry)) octets nl qm (now (bits .entry)) (now (out .entry)) r (now (out .exit)) ⌝ }
 {
     let plan = profile::inner::plan_accepted(profile, octets);
@@ -118,7 +117,7 @@ fn receive_through(
 }
 
 // The longest block has 16,408 transport bits.
-fn receive_heard(
+fn receive_accepted(
     profile: &[u8],
     octets: usize,
     nl: usize,
@@ -126,7 +125,7 @@ fn receive_heard(
     bits: &[u8],
     out: &mut [u8],
 ) -> Written
-    requires { ⌜ Heard (now profile) octets nl qm (now bits) × (octets ≤ length (now out)) ⌝ }
+    requires { ⌜ Receivable (now profile) octets nl qm (now bits) × (octets ≤ length (now out)) ⌝ }
     ensures { λ r. ⌜ Decided (now (profile .entry)) octets nl qm (now (bits .entry)) (now (out .entry)) r (now (out .exit)) ⌝ }
 {
     let mut room = [0u8; 16408];
@@ -144,9 +143,9 @@ pub fn receive(
 ) -> Written
     ensures { λ r. ⌜ Received (now (profile .entry)) a nl qm (now (bits .entry)) (now (out .entry)) r (now (out .exit)) ⌝ }
 {
-    let number = numbers::heard_number(profile, a, nl, qm, bits, out.len());
+    let number = numbers::reception_number(profile, a, nl, qm, bits, out.len());
     if number != DONE {
         return Written { number, count: 0 };
     }
-    receive_heard(profile, a / 8, nl, qm, bits, out)
+    receive_accepted(profile, a / 8, nl, qm, bits, out)
 }

@@ -1,4 +1,5 @@
 // Step 6 of document 01: rate matching, of a coded block with marks anywhere, and of one whose filler lies in a known stretch.
+use bits::count::CodedBits;
 use bits::number::DONE;
 use bits::number::NO_BIT;
 use bits::number::PARAMETER;
@@ -8,7 +9,7 @@ ghost use mathlib.Core.Bool.{false};
 ghost use mathlib.Core.List.{_++_};
 ghost use Prim.Native.Nat.{_+_, _-_, _≤_, _<_};
 ghost use lib.Dec.{eqb};
-ghost use lib.ListN.{length, drop, take};
+ghost use lib.ListN.{length, drop};
 ghost use Rattle.coding.specs.Matching.{kept, matched};
 ghost use Rattle.coding.specs.Promises.{unmatchable, matchNumber};
 ghost use Rattle.coding.specs.steps.Places.{Laid, Repeated, PutKept, Keeping, Filled};
@@ -26,26 +27,29 @@ pub fn lay(s: &[u8], from: usize, out: &mut [u8], at: usize, n: usize)
 }
 
 // Repeats the first n octets up to e.
-fn repeat(out: &mut [u8], n: usize, e: usize)
-    requires { ⌜ (0 < n) × (n ≤ e) × (e ≤ length (now out)) ⌝ }
-    ensures { λ _. ⌜ Repeated n e (now (out .entry)) (now (out .exit)) ⌝ }
+fn repeat(out: &mut [u8], n: CodedBits, e: CodedBits)
+    requires { ⌜ (0 < n .0) × (n .0 ≤ e .0) × (e .0 ≤ length (now out)) ⌝ }
+    ensures { λ _. ⌜ Repeated (n .0) (e .0) (now (out .entry)) (now (out .exit)) ⌝ }
 {
-    let mut k = n;
-    while k < e {
-        out[k] = out[k - n];
+    let front = n.0;
+    let end = e.0;
+    let mut k = front;
+    while k < end {
+        out[k] = out[k - front];
         k += 1;
     }
 }
 
 // Writes a place where it is kept and asked for, and answers how many are written then.
-fn put_kept(x: u8, out: &mut [u8], k: usize, e: usize) -> usize
-    requires { ⌜ (k ≤ e) × (e ≤ length (now out)) ⌝ }
-    ensures { λ r. ⌜ PutKept x k e (now (out .entry)) r (now (out .exit)) ⌝ }
+fn put_kept(x: u8, out: &mut [u8], k: usize, e: CodedBits) -> usize
+    requires { ⌜ (k ≤ e .0) × (e .0 ≤ length (now out)) ⌝ }
+    ensures { λ r. ⌜ PutKept x k (e .0) (now (out .entry)) r (now (out .exit)) ⌝ }
 {
+    let end = e.0;
     if x == 2 {
         return k;
     }
-    if k == e {
+    if k == end {
         return k;
     }
     out[k] = x;
@@ -53,9 +57,9 @@ fn put_kept(x: u8, out: &mut [u8], k: usize, e: usize) -> usize
 }
 
 // Writes the kept places in order, at most e of them, and answers how many.
-fn put_all_kept(coded: &[u8], e: usize, out: &mut [u8]) -> usize
-    requires { ⌜ e ≤ length (now out) ⌝ }
-    ensures { λ r. ⌜ Keeping (now (coded .entry)) (now (out .entry)) e (length (now (coded .entry))) r (now (out .exit)) ⌝ }
+fn put_all_kept(coded: &[u8], e: CodedBits, out: &mut [u8]) -> CodedBits
+    requires { ⌜ e .0 ≤ length (now out) ⌝ }
+    ensures { λ r. ⌜ Keeping (now (coded .entry)) (now (out .entry)) (e .0) (length (now (coded .entry))) (r .0) (now (out .exit)) ⌝ }
 {
     let mut k = 0;
     let mut i = 0;
@@ -63,16 +67,16 @@ fn put_all_kept(coded: &[u8], e: usize, out: &mut [u8]) -> usize
         k = put_kept(coded[i], out, k, e);
         i += 1;
     }
-    k
+    CodedBits(k)
 }
 
 // The e bits of a coded block with marks anywhere: the kept places once, and then their repetition.
-pub fn fill(coded: &[u8], e: usize, out: &mut [u8])
-    requires { ⌜ (e ≤ length (now out)) × (unmatchable (now coded) e ≡ false) ⌝ }
-    ensures { λ _. ⌜ now (out .exit) ≡ matched (now (coded .entry)) e ++ drop e (now (out .entry)) ⌝ }
+pub fn fill(coded: &[u8], e: CodedBits, out: &mut [u8])
+    requires { ⌜ (e .0 ≤ length (now out)) × (unmatchable (now coded) (e .0) ≡ false) ⌝ }
+    ensures { λ _. ⌜ now (out .exit) ≡ matched (now (coded .entry)) (e .0) ++ drop (e .0) (now (out .entry)) ⌝ }
 {
     let n = put_all_kept(coded, e, out);
-    if n < e {
+    if n.0 < e.0 {
         repeat(out, n, e);
     }
 }
@@ -91,25 +95,25 @@ fn none_kept(coded: &[u8]) -> bool
     true
 }
 
-fn is_unmatchable(coded: &[u8], e: usize) -> bool
-    ensures { λ r. ⌜ r ≡ unmatchable (now (coded .entry)) e ⌝ }
+fn is_unmatchable(coded: &[u8], e: CodedBits) -> bool
+    ensures { λ r. ⌜ r ≡ unmatchable (now (coded .entry)) (e .0) ⌝ }
 {
-    if 65536 < e {
+    if 65536 < e.0 {
         return true;
     }
-    if e == 0 {
+    if e.0 == 0 {
         return false;
     }
     none_kept(coded)
 }
 
-pub fn match_number(coded: &[u8], e: usize, room: usize) -> u32
-    ensures { λ r. ⌜ r ≡ matchNumber (now (coded .entry)) e room ⌝ }
+pub fn match_number(coded: &[u8], e: CodedBits, room: usize) -> u32
+    ensures { λ r. ⌜ r ≡ matchNumber (now (coded .entry)) (e .0) room ⌝ }
 {
     if is_unmatchable(coded, e) {
         return PARAMETER;
     }
-    if room < e {
+    if room < e.0 {
         return SHORT_OUTPUT;
     }
     if bits::inner::some_over(2, coded) {
@@ -119,20 +123,20 @@ pub fn match_number(coded: &[u8], e: usize, room: usize) -> u32
 }
 
 // The e bits of a coded block whose filler lies from `own` to `places`: its two runs, and then their repetition.
-pub fn match_filled(coded: &[u8], own: usize, places: usize, e: usize, out: &mut [u8])
-    requires { ⌜ Filled (now coded) own places × (places < length (now coded)) × (e ≤ length (now out)) ⌝ }
-    ensures { λ _. ⌜ now (out .exit) ≡ matched (now (coded .entry)) e ++ drop e (now (out .entry)) ⌝ }
+pub fn match_filled(coded: &[u8], own: usize, places: usize, e: CodedBits, out: &mut [u8])
+    requires { ⌜ Filled (now coded) own places × (places < length (now coded)) × (e .0 ≤ length (now out)) ⌝ }
+    ensures { λ _. ⌜ now (out .exit) ≡ matched (now (coded .entry)) (e .0) ++ drop (e .0) (now (out .entry)) ⌝ }
 {
-    if e <= own {
-        lay(coded, 0, out, 0, e);
+    if e.0 <= own {
+        lay(coded, 0, out, 0, e.0);
         return;
     }
     lay(coded, 0, out, 0, own);
-    let n = own + (coded.len() - places);
-    if e <= n {
-        lay(coded, places, out, own, e - own);
+    let n = CodedBits(own + (coded.len() - places));
+    if e.0 <= n.0 {
+        lay(coded, places, out, own, e.0 - own);
         return;
     }
-    lay(coded, places, out, own, n - own);
+    lay(coded, places, out, own, n.0 - own);
     repeat(out, n, e);
 }

@@ -2,6 +2,7 @@
 use crate::allocation;
 use crate::receiving;
 use bits::count::CodedBits;
+use bits::count::inner::symbol_places;
 use bits::number::BLOCK_LENGTH;
 use bits::number::DONE;
 use bits::number::NO_BIT;
@@ -10,12 +11,12 @@ use bits::number::PARAMETER;
 use bits::number::SHORT_OUTPUT;
 use bits::number::TOO_FEW_PLACES;
 ghost use mathlib.Core.Path.{_≡_};
-ghost use Rattle.coding.specs.steps.Sending.{takenNumber};
-ghost use Rattle.coding.specs.steps.Receiving.{octetsOf, heardNumber};
+ghost use Rattle.coding.specs.steps.Sending.{requestNumber};
+ghost use Rattle.coding.specs.steps.Receiving.{octetsOf, receptionNumber};
 
 // 5 to 11, tested in their order, where `need` octets are to be written into `room`. The profile is judged once, and nothing is divided
 // before 8 is decided.
-pub fn taken_number(
+pub fn request_number(
     profile: &[u8],
     octets: usize,
     nl: usize,
@@ -24,7 +25,7 @@ pub fn taken_number(
     need: usize,
     room: usize,
 ) -> u32
-    ensures { λ r. ⌜ r ≡ takenNumber (now (profile .entry)) octets nl qm (g .0) need room ⌝ }
+    ensures { λ r. ⌜ r ≡ requestNumber (now (profile .entry)) octets nl qm (g .0) need room ⌝ }
 {
     let judged = profile::judge(profile);
     if judged != DONE {
@@ -32,17 +33,16 @@ pub fn taken_number(
     }
     let plan = profile::inner::plan_accepted(profile, octets);
     let number = plan.number;
-    let all = g.0;
     if number == BLOCK_LENGTH {
         return BLOCK_LENGTH;
     }
-    if allocation::is_misallocated(nl, qm, all) {
+    if allocation::is_misallocated(nl, qm, g) {
         return PARAMETER;
     }
     if number != DONE {
         return number;
     }
-    let places = g.places(nl, qm);
+    let places = symbol_places(g, nl, qm);
     if places.0 < plan.blocks {
         return TOO_FEW_PLACES;
     }
@@ -63,14 +63,21 @@ pub fn octets_of(a: usize) -> usize
 }
 
 // 5 to 13, tested in their order.
-pub fn heard_number(profile: &[u8], a: usize, nl: usize, qm: usize, bits: &[u8], room: usize) -> u32
-    ensures { λ r. ⌜ r ≡ heardNumber (now (profile .entry)) a nl qm (now (bits .entry)) room ⌝ }
+pub fn reception_number(
+    profile: &[u8],
+    a: usize,
+    nl: usize,
+    qm: usize,
+    bits: &[u8],
+    room: usize,
+) -> u32
+    ensures { λ r. ⌜ r ≡ receptionNumber (now (profile .entry)) a nl qm (now (bits .entry)) room ⌝ }
 {
     let octets = octets_of(a);
     let g = CodedBits(bits.len());
-    let taken = taken_number(profile, octets, nl, qm, g, octets, room);
-    if taken != DONE {
-        return taken;
+    let request = request_number(profile, octets, nl, qm, g, octets, room);
+    if request != DONE {
+        return request;
     }
     if bits::inner::some_over(1, bits) {
         return NO_BIT;

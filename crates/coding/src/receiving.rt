@@ -10,31 +10,32 @@ ghost use lib.Dec.{ltb};
 ghost use lib.ListN.{length};
 ghost use Rattle.profile.specs.Record.{kb, m};
 ghost use Rattle.profile.specs.Plan.{blockBits, blocks, ownBits};
-ghost use Rattle.bits.specs.Ranges.{anyTo};
+ghost use Rattle.bits.specs.Ranges.{anyBelow};
 ghost use Rattle.coding.specs.Allocation.{share};
 ghost use Rattle.profile.specs.Promises.{planNumber};
 ghost use Rattle.coding.specs.Receiving.{someWithoutRoom};
 ghost use Rattle.coding.specs.steps.Sending.{Allocated};
-ghost use Rattle.coding.specs.steps.Receiving.{Hearing, Rebuilt};
+ghost use Rattle.coding.specs.steps.Receiving.{ReceivablePlan, Rebuilt};
 
-// Whether the share of some of c blocks is below N: its n coded places less its filler, which is its places less its own bits.
+// Whether the share of some of c blocks is below N: its coded places less its filler, which is its places less its own bits.
 fn some_lack(
     b: usize,
     c: usize,
     places: usize,
-    n: usize,
+    coded: usize,
     nl: usize,
     qm: usize,
     g: CodedBits,
 ) -> bool
-    requires { ⌜ (b ≤ 16408) × (c ≤ 64) × (n ≤ 2592) × (places ≤ n) × ((r : ℕ) → ownBits b c r ≤ places) × Allocated nl qm (g .0) c ⌝ }
-    ensures { λ r. ⌜ r ≡ anyTo c (λ i. ltb (share nl qm (g .0) c i .0) (n - (places - ownBits b c i))) ⌝ }
+    requires { ⌜ (b ≤ 16408) × (c ≤ 64) × (coded ≤ 2592) × (places ≤ coded) × ((r : ℕ) → ownBits b c r ≤ places) × Allocated nl qm (g .0) c ⌝ }
+    ensures { λ r. ⌜ r ≡ anyBelow c (λ i. ltb (share nl qm (g .0) c i .0) (coded - (places - ownBits b c i))) ⌝ }
 {
     let mut k = 0;
     while k < c {
         let own = profile::inner::own_bits(b, c, k);
-        let e = allocation::share_of(nl, qm, g, c, k).0;
-        if e < n - (places - own) {
+        let e = allocation::share_of(nl, qm, g, c, k);
+        let n = CodedBits(coded - (places - own));
+        if e.0 < n.0 {
             return true;
         }
         k += 1;
@@ -50,8 +51,8 @@ pub fn lacks_room(profile: &[u8], octets: usize, nl: usize, qm: usize, g: CodedB
     let plan = profile::inner::plan_accepted(profile, octets);
     let kb = profile::inner::kb(profile);
     let m = profile::inner::m(profile);
-    let n = (kb + m) * plan.z;
-    some_lack(plan.bits, plan.blocks, plan.places, n, nl, qm, g)
+    let coded = (kb + m) * plan.z;
+    some_lack(plan.bits, plan.blocks, plan.places, coded, nl, qm, g)
 }
 
 // Whether transport bits are sent as these bits, and the places left at the end are zeros. The transport bits are laid in front of `room`
@@ -65,7 +66,7 @@ fn rebuild(
     word: &mut [u8],
     room: &mut [u8],
 ) -> bool
-    requires { ⌜ Hearing (now profile) nl qm (now bits) plan × (length (now word) ≡ (kb (now profile) + m (now profile)) * plan .z) × (16408 ≤ length (now room)) ⌝ }
+    requires { ⌜ ReceivablePlan (now profile) nl qm (now bits) plan × (length (now word) ≡ (kb (now profile) + m (now profile)) * plan .z) × (16408 ≤ length (now room)) ⌝ }
     ensures { λ r. ⌜ Rebuilt (now (profile .entry)) nl qm (now (bits .entry)) (plan .bits) r (now (room .exit)) ⌝ }
 {
     let g = CodedBits(bits.len());
@@ -76,13 +77,13 @@ fn rebuild(
     let mut r = 0;
     while r < c {
         let own = profile::inner::own_bits(b, c, r);
-        let e = allocation::share_of(nl, qm, g, c, r).0;
-        if !blocks::is_sent_as(profile, plan, &bits[at..at + e], own, word) {
+        let e = allocation::share_of(nl, qm, g, c, r);
+        if !blocks::is_sent_as(profile, plan, &bits[at..at + e.0], own, word) {
             return false;
         }
         matching::lay(bits, at, room, start, own);
         start += own;
-        at += e;
+        at += e.0;
         r += 1;
     }
     !bits::inner::some_over(0, &bits[at..])
@@ -97,7 +98,7 @@ pub fn rebuild_bits(
     qm: usize,
     room: &mut [u8],
 ) -> bool
-    requires { ⌜ Hearing (now profile) nl qm (now bits) plan × (16408 ≤ length (now room)) ⌝ }
+    requires { ⌜ ReceivablePlan (now profile) nl qm (now bits) plan × (16408 ≤ length (now room)) ⌝ }
     ensures { λ r. ⌜ Rebuilt (now (profile .entry)) nl qm (now (bits .entry)) (plan .bits) r (now (room .exit)) ⌝ }
 {
     let z = plan.z;

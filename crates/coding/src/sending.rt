@@ -7,19 +7,20 @@ use bits::number::NO_PARITY;
 use bits::number::Written;
 use profile::Plan;
 ghost use mathlib.Core.Path.{_≡_};
-ghost use mathlib.Core.Bool.{true};
+ghost use mathlib.Core.Bool.{false, not};
 ghost use mathlib.Core.List.{_++_};
 ghost use Prim.Native.Nat.{_+_, _*_, _≤_};
 ghost use lib.ListN.{length, drop, replicate};
 ghost use Rattle.profile.specs.Record.{kb, m};
 ghost use Rattle.profile.specs.Plan.{blocks};
+ghost use Rattle.coding.specs.Blocks.{someWithoutParity};
 ghost use Rattle.coding.specs.Joining.{blockSent, joined};
-ghost use Rattle.coding.specs.steps.Sending.{Ready, Allocated, allHaveParity, bitsSent, BitsSent};
+ghost use Rattle.coding.specs.steps.Sending.{Ready, Allocated, BitsSent};
 
 // Whether every block has parity bits with which it checks.
 fn all_have_parity(profile: &[u8], plan: Plan, bits: &[u8], word: &mut [u8]) -> bool
     requires { ⌜ Ready (now profile) (now bits) plan × (length (now word) ≡ (kb (now profile) + m (now profile)) * plan .z) ⌝ }
-    ensures { λ r. ⌜ r ≡ allHaveParity (now (profile .entry)) (now (bits .entry)) ⌝ }
+    ensures { λ r. ⌜ r ≡ not (someWithoutParity (now (profile .entry)) (plan .bits) (now (bits .entry))) ⌝ }
 {
     let b = plan.bits;
     let c = plan.blocks;
@@ -47,8 +48,8 @@ fn send_blocks(
     word: &mut [u8],
     out: &mut [u8],
 ) -> usize
-    requires { ⌜ Ready (now profile) (now bits) plan × (length (now word) ≡ (kb (now profile) + m (now profile)) * plan .z) × Allocated nl qm (g .0) (plan .blocks) × (g .0 ≤ length (now out)) × (allHaveParity (now profile) (now bits) ≡ true) ⌝ }
-    ensures { λ at. ⌜ (at ≤ g .0) × (length (joined (blocks (now (profile .entry)) (length (now (bits .entry)))) (blockSent (now (profile .entry)) (now (bits .entry)) nl qm (g .0))) ≡ at) × (now (out .exit) ≡ joined (blocks (now (profile .entry)) (length (now (bits .entry)))) (blockSent (now (profile .entry)) (now (bits .entry)) nl qm (g .0)) ++ drop at (now (out .entry))) ⌝ }
+    requires { ⌜ Ready (now profile) (now bits) plan × (length (now word) ≡ (kb (now profile) + m (now profile)) * plan .z) × Allocated nl qm (g .0) (plan .blocks) × (g .0 ≤ length (now out)) × (someWithoutParity (now profile) (plan .bits) (now bits) ≡ false) ⌝ }
+    ensures { λ at. ⌜ (at ≤ g .0) × (length (joined (blocks (now (profile .entry)) (plan .bits)) (blockSent (now (profile .entry)) (plan .bits) (now (bits .entry)) nl qm (g .0))) ≡ at) × (now (out .exit) ≡ joined (blocks (now (profile .entry)) (plan .bits)) (blockSent (now (profile .entry)) (plan .bits) (now (bits .entry)) nl qm (g .0)) ++ drop at (now (out .entry))) ⌝ }
 {
     let b = plan.bits;
     let c = plan.blocks;
@@ -57,10 +58,10 @@ fn send_blocks(
     let mut r = 0;
     while r < c {
         let own = profile::inner::own_bits(b, c, r);
-        let e = allocation::share_of(nl, qm, g, c, r).0;
+        let e = allocation::share_of(nl, qm, g, c, r);
         blocks::send_block(profile, plan, bits, start, own, e, word, &mut out[at..]);
         start += own;
-        at += e;
+        at += e.0;
         r += 1;
     }
     at
@@ -90,7 +91,7 @@ fn send_in(
     out: &mut [u8],
 ) -> Written
     requires { ⌜ Ready (now profile) (now bits) plan × (length (now word) ≡ (kb (now profile) + m (now profile)) * plan .z) × Allocated nl qm (g .0) (plan .blocks) × (g .0 ≤ length (now out)) ⌝ }
-    ensures { λ r. ⌜ BitsSent (now (profile .entry)) (now (bits .entry)) nl qm (g .0) (now (out .entry)) r (now (out .exit)) ⌝ }
+    ensures { λ r. ⌜ BitsSent (now (profile .entry)) (plan .bits) (now (bits .entry)) nl qm (g .0) (now (out .entry)) r (now (out .exit)) ⌝ }
 {
     if !all_have_parity(profile, plan, bits, word) {
         return Written {
@@ -118,7 +119,7 @@ pub fn send_bits(
     out: &mut [u8],
 ) -> Written
     requires { ⌜ Ready (now profile) (now bits) plan × Allocated nl qm (g .0) (plan .blocks) × (g .0 ≤ length (now out)) ⌝ }
-    ensures { λ r. ⌜ BitsSent (now (profile .entry)) (now (bits .entry)) nl qm (g .0) (now (out .entry)) r (now (out .exit)) ⌝ }
+    ensures { λ r. ⌜ BitsSent (now (profile .entry)) (plan .bits) (now (bits .entry)) nl qm (g .0) (now (out .entry)) r (now (out .exit)) ⌝ }
 {
     let z = plan.z;
     let kb = profile::inner::kb(profile);

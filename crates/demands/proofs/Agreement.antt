@@ -1,5 +1,5 @@
 -- Agreement (document 01, "What the promises say"): "For every input, good or refused, a public call's promise names one result and one content of
--- the lent memory, so that two implementations meeting it agree; that agreement is proved". Here for every public call. Assumes nothing.
+-- the lent memory, so that two implementations meeting it agree; that agreement is proved". Here for every public call.
 use mathlib.Core.Path.{_≡_}
 use mathlib.Core.List.{List}
 use Prim.Native.Nat.{ℕ}
@@ -9,7 +9,7 @@ use Rattle.checksum.specs.declared.Sum.{Sum}
 use Rattle.checksum.specs.Promises.{OfBits, OfOctets}
 use Rattle.checksum.proofs.Agreement.{of-bits-agree, of-octets-agree}
 use Rattle.profile.specs.declared.Plan.{Plan}
-use Rattle.profile.specs.Promises.{judged, Planned}
+use Rattle.profile.specs.Promises.{judged, planned}
 use Rattle.profile.proofs.Agreement.{judge-agree, planned-agree}
 use Rattle.parity.specs.declared.Verdict.{Verdict}
 use Rattle.parity.specs.Promises.{BlockCoded, WordChecked}
@@ -36,8 +36,8 @@ of-octets a b = of-octets-agree a b
 pub judge : (R : List ℕ) {r r' : ℕ} → r ≡ judged R → r' ≡ judged R → r ≡ r'
 judge R a b = judge-agree R a b
 
-pub plan-block : {R : List ℕ} {octets : ℕ} {r r' : Plan} → Planned R octets r → Planned R octets r' → r ≡ r'
-plan-block a b = planned-agree a b
+pub plan-block : (R : List ℕ) (octets : ℕ) {r r' : Plan} → r ≡ planned R octets → r' ≡ planned R octets → r ≡ r'
+plan-block R octets a b = planned-agree R octets a b
 
 -- ---- parity::code_block, parity::check_word
 
@@ -62,10 +62,12 @@ pub receive : {R : List ℕ} {a nl qm : ℕ} {bits out : List ℕ} {r r' : Writt
     → Received R a nl qm bits out r o → Received R a nl qm bits out r' o' → (r ≡ r') × (o ≡ o')
 receive a b = receive-agree a b
 
--- ---- shelf::lookup_number, shelf::lookup (a stretch is its octets and its place), shelf::hosted_send, shelf::hosted_receive
+-- ---- advice::least_bits
 
 pub least-bits : {R : List ℕ} {octets nl qm : ℕ} {r r' : Least} → LeastRoom R octets nl qm r → LeastRoom R octets nl qm r' → r ≡ r'
 least-bits a b = least-agree a b
+
+-- ---- shelf::lookup_number, shelf::lookup (a stretch is its octets and its place), shelf::hosted_send, shelf::hosted_receive
 
 pub lookup-number : (private public : List ℕ) (t p : ℕ) {r r' : ℕ} → r ≡ lookupNumber private public t p → r' ≡ lookupNumber private public t p → r ≡ r'
 lookup-number private public t p a b = lookup-number-agree private public t p a b

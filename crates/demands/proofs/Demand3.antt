@@ -1,18 +1,18 @@
 -- The third demand, sentence by sentence: over `send` and `receive`, and over the hosted calls with the same shelves, tenant and profile number on both
--- sides. Assumes nothing.
-use mathlib.Core.Path.{_≡_}
+-- sides.
+use mathlib.Core.Path.{_≡_, refl}
 use mathlib.Core.List.{List, _++_}
 use Prim.Native.Nat.{ℕ, _*_, _≤_}
 use lib.ListN.{length, take, drop}
 use Rattle.bits.specs.Bits.{AreBits, AreOctets}
 use Rattle.bits.specs.declared.number.Written.{Written}
 use Rattle.coding.specs.Promises.{Sent, Received}
-use Rattle.coding.specs.RoundTrip.{Roomy, SentAs}
+use Rattle.coding.specs.RoundTrip.{Roomy, NoneSentAs}
 use Rattle.coding.proofs.RoundTrip.{sent-apart, sent-returns, unsent-exactly}
 use Rattle.shelf.specs.Lookup.{lookupNumber, lookupRecord}
 use Rattle.shelf.specs.Promises.{HostedSent, HostedReceived}
-use Rattle.demands.specs.Hosted.{HostedSentAs}
-use Rattle.demands.proofs.Hosted.{looked-up, send-hosted, hosted-send, receive-hosted}
+use Rattle.shelf.proofs.Hosted.{hosted-found}
+use Rattle.demands.proofs.Hosted.{planned-found}
 
 -- "Take an accepted profile, block length and allocation in which every code block has room for all its coded bits that are not filler": Roomy, of
 -- coding/specs/RoundTrip; "and a receiving buffer that holds the block": octets ≤ length buf
@@ -37,8 +37,8 @@ returns h whole fits s done v = sent-returns h whole fits s done v
 -- them, sending being that of the second demand"
 pub exactly : {R : List ℕ} {octets nl qm : ℕ} {bits buf : List ℕ} {r : Written} {buf' : List ℕ}
     → Roomy R octets nl qm (length bits) → AreBits bits → octets ≤ length buf → Received R (8 * octets) nl qm bits buf r buf'
-    → (r .number ≡ 14 → (block : List ℕ) → AreOctets block → length block ≡ octets → SentAs R nl qm block bits → ⊥)
-    × (((block : List ℕ) → AreOctets block → length block ≡ octets → SentAs R nl qm block bits → ⊥) → r .number ≡ 14)
+    → (r .number ≡ 14 → NoneSentAs (λ block out r out'. Sent R block nl qm (length bits) out r out') octets bits)
+    × (NoneSentAs (λ block out r out'. Sent R block nl qm (length bits) out r out') octets bits → r .number ≡ 14)
 exactly h single fits v = unsent-exactly h single fits v
 
 -- ---- the hosted calls: R is the record that the tenant t is given for the profile number p
@@ -51,8 +51,8 @@ module _ {private public : List ℕ} {t p : ℕ} where
       → HostedSent private public t p block' nl qm g out' r' o' → r' .number ≡ 0
       → take g o ≡ take g o' → block ≡ block'
   hosted-apart {block = block} h whole whole' size s done s' done' e =
-      let z = looked-up private public t p (length block) (h .taken) in
-      sent-apart h whole whole' size (send-hosted private public t p z s) done (send-hosted private public t p z s') done' e
+      let z = planned-found private public t p (length block) (h .taken) in
+      sent-apart h whole whole' size (s .found z) done (s' .found z) done' e
 
   -- "receiving the sent bits returns the block"
   pub hosted-returns : {block : List ℕ} {nl qm g : ℕ} {out : List ℕ} {r : Written} {o buf : List ℕ} {r' : Written} {buf' : List ℕ}
@@ -61,41 +61,19 @@ module _ {private public : List ℕ} {t p : ℕ} where
       → HostedReceived private public t p (8 * length block) nl qm (take g o) buf r' buf'
       → (r' .number ≡ 0) × (r' .count ≡ length block) × (take (length block) buf' ≡ block) × (buf' ≡ block ++ drop (length block) buf)
   hosted-returns {block = block} h whole fits s done v =
-      let z = looked-up private public t p (length block) (h .taken) in
-      sent-returns h whole fits (send-hosted private public t p z s) done (receive-hosted private public t p z v)
+      let z = planned-found private public t p (length block) (h .taken) in
+      sent-returns h whole fits (s .found z) done (v .found z)
 
   -- "and received noughts and ones, as many as the allocation gives, are refused as unsent exactly when no transport block of that length is sent
   -- as them, sending being that of the second demand"
   pub hosted-exactly : {octets nl qm : ℕ} {bits buf : List ℕ} {r : Written} {buf' : List ℕ}
       → Roomy (lookupRecord private public t p) octets nl qm (length bits) → AreBits bits → octets ≤ length buf
       → HostedReceived private public t p (8 * octets) nl qm bits buf r buf'
-      → (r .number ≡ 14 → (block : List ℕ) → AreOctets block → length block ≡ octets → HostedSentAs private public t p nl qm block bits → ⊥)
-      × (((block : List ℕ) → AreOctets block → length block ≡ octets → HostedSentAs private public t p nl qm block bits → ⊥) → r .number ≡ 14)
-  hosted-exactly {octets} {nl} {qm} {bits} {buf} {r} {buf'} h single fits v =
-      let both-ways = unsent-exactly h single fits (receive-hosted private public t p z v) in
-      (λ e block whole size s. both-ways .0 e block whole size (plain block s), λ none. both-ways .1 (λ block whole size s. none block whole size (hosted block s)))
-    where
-      z : lookupNumber private public t p ≡ 0
-      z = looked-up private public t p octets (h .taken)
-
-      plain : (block : List ℕ) → HostedSentAs private public t p nl qm block bits → SentAs (lookupRecord private public t p) nl qm block bits
-      plain block s =
-          record {
-            out = s .out;
-            result = s .result;
-            exit = s .exit;
-            promise = send-hosted private public t p z (s .promise);
-            done = s .done;
-            bits-are = s .bits-are;
-          }
-
-      hosted : (block : List ℕ) → SentAs (lookupRecord private public t p) nl qm block bits → HostedSentAs private public t p nl qm block bits
-      hosted block s =
-          record {
-            out = s .out;
-            result = s .result;
-            exit = s .exit;
-            promise = hosted-send private public t p z (s .promise);
-            done = s .done;
-            bits-are = s .bits-are;
-          }
+      → (r .number ≡ 14 → NoneSentAs (λ block out r out'. HostedSent private public t p block nl qm (length bits) out r out') octets bits)
+      × (NoneSentAs (λ block out r out'. HostedSent private public t p block nl qm (length bits) out r out') octets bits → r .number ≡ 14)
+  hosted-exactly {octets} {nl} {qm} {bits} h single fits v =
+      let z = planned-found private public t p octets (h .taken) in
+      let both-ways = unsent-exactly h single fits (v .found z) in (
+        λ e block whole size out w out' s. both-ways .0 e block whole size out w out' (s .found z),
+        λ none. both-ways .1 (λ block whole size out w out' s. none block whole size out w out' (hosted-found private public t p _ _ _ _ z _ refl s)),
+      )

@@ -1,5 +1,5 @@
 -- No statement is empty: with the toy profile of document 01 there are sendings and receptions that are accepted, and every refusal from 1 to 14 is
--- reached. The searches of 14 and of what is received are never computed; the laws decide them. Assumes nothing.
+-- reached. The searches of 14 and of what is received are never computed; the laws decide them.
 use mathlib.Core.Path.{_≡_, refl, sym, ap, _∙_, subst}
 use mathlib.Core.Bool.{true, false, true≢false}
 use mathlib.Core.List.{List, [], _∷_, _++_, map}
@@ -7,43 +7,44 @@ use Prim.Native.Nat.{ℕ, zero, suc, _≤_}
 use native.Mathlib.Omega.{arith}
 use lib.Dec.{lit<, lit≤}
 use lib.ListN.{length, getD, take, drop, replicate, set}
-use Rattle.bits.specs.Bits.{AreOctets, someOver, numberAt, readOn, number, unpacked, digits}
-use Rattle.bits.specs.Counts.{placesOf, bitsOf}
+use Rattle.bits.specs.Bits.{AreOctets, someOver, numberAt, readOn, valueOf, unpacked, digits}
+use Rattle.bits.specs.Counts.{ceil, symbolPlacesOf, codedBitsOf}
 use Rattle.bits.specs.Numbers.{answered, whenDone}
-use Rattle.bits.specs.Ranges.{sumTo, parityTo, allTo, anyTo, firstTo}
+use Rattle.bits.specs.Ranges.{sumBelow, parityBelow, allBelow, anyBelow, firstBelow}
 use Rattle.bits.specs.declared.number.Written.{Written}
 use Rattle.bits.proofs.Over.{over-none-bits}
 use Rattle.checksum.specs.Crc.{reduce, divideOn, remainder, checksum, attached}
 use Rattle.checksum.specs.Crc as crc
 use Rattle.checksum.specs.steps.Testing as testing
 use Rattle.checksum.proofs.Attachment.{checks-complete}
-use Rattle.profile.specs.Record.{kb, m, t, z, offset, tableSize, table, entry, headerRight, offsetDue, lengthRight, rises, sizeRight, shiftRight, tableRight, wellFormed}
-use Rattle.profile.specs.Staircase.{firstDue, nextDue, rowRight, stairsAt, staircase, staircases}
-use Rattle.profile.specs.Plan.{ceil, blockBits, kmax, blocks, ownBits, whichSizeFor, whichSize, places, filler}
+use Rattle.profile.specs.Record.{kb, m, t, z, offset, tableSize, table, entry, headerRight, rises, sizesRight, offsetDue, offsetsRight, endsRight, shiftRight, tableRight, wellFormed}
+use Rattle.profile.specs.Staircase.{filled, filledBetween, firstColumn, nextDue, nextColumn, staircase, staircases}
+use Rattle.profile.specs.Plan.{blockBits, kmax, blocks, ownBits, sizeIndexFor, sizeIndex, places, filler}
 use Rattle.profile.specs.Promises.{planNumber}
 use Rattle.profile.proofs.Plans.{plan-cut}
 use Rattle.parity.specs.Matrix.{square, spread, bitAt, rowEven, checks}
 use Rattle.parity.specs.Coded.{withParity, checksWith, hasParity, coded}
 use Rattle.coding.specs.Transport.{transport}
-use Rattle.coding.specs.Cutting.{ownStart, own, systematic}
+use Rattle.coding.specs.Cutting.{ownStart, own, withFiller, systematic}
 use Rattle.coding.specs.Allocation.{misallocated, symbolPlaces, share}
 use Rattle.coding.specs.Blocks.{codedBlock, blockHasParity, someWithoutParity, sendable}
 use Rattle.coding.specs.Receiving.{someWithoutRoom}
 use Rattle.coding.specs.Promises.{tooFewPlaces, sendNumber, Sent, notOctets, receiveNumber, Received}
-use Rattle.coding.specs.steps.Receiving.{shareStart, ownHeard, gathered, Heard}
-use Rattle.coding.specs.Matching.{kept, listTo, matched}
-use Rattle.coding.specs.Joining.{blockSent, joined, padded, sent}
+use Rattle.coding.specs.steps.Receiving.{shareStart, ownReceived, gathered, Receivable}
+use Rattle.coding.specs.Matching.{kept, listBelow, matched}
+use Rattle.coding.specs.Joining.{blockSent, joined, padded, radioBits}
 use Rattle.coding.specs.RoundTrip.{Roomy}
-use Rattle.coding.specs.Worked.{toy, sixteen}
 use Rattle.coding.proofs.RoundTrip.{sent-front, sent-returns, unsent-exactly}
 use Rattle.coding.proofs.Shares.{allocated}
 use Rattle.coding.proofs.Received.{block-gathered}
 use Rattle.coding.proofs.Transported.{generator-24}
-use Rattle.coding.proofs.Worked as sends
+use Rattle.advice.specs.Promises.{LeastRoom}
+use Rattle.advice.specs.steps.Counting.{cutNumber, mostSendable}
+use Rattle.advice.proofs.Numbers.{last-done}
 use Rattle.shelf.specs.Shelf as shelves
 use Rattle.shelf.specs.Promises.{HostedReceived}
 use Rattle.shelf.specs.Lookup.{isEntry, has, entryOf, recordOf, lookupNumber, lookupRecord}
-use Rattle.demands.proofs.Hosted.{receive-hosted}
+use Rattle.demands.specs.Worked.{toy, p10Octets, toySent, cases}
 use Rattle.demands.proofs.Worked.{worked}
 
 -- ---- every refusal that is not of the coded bits themselves, by computing: sending
@@ -82,10 +83,10 @@ abbrev pub sendingDue : Sending → ℕ
 sendingDue c = c .due
 
 pub sendings-answered : map sending sendings ≡ map sendingDue sendings
-unfolding sendings bent toy sendNumber answered misallocated tooFewPlaces share symbolPlaces placesOf bitsOf numberAt digits readOn number unpacked sumTo parityTo
-    allTo anyTo firstTo reduce divideOn remainder checksum attached kb m t z offset tableSize table entry headerRight offsetDue lengthRight rises sizeRight shiftRight
-    tableRight wellFormed firstDue nextDue rowRight stairsAt staircase staircases ceil blockBits kmax blocks ownBits whichSizeFor whichSize places filler square spread bitAt
-    rowEven checks withParity checksWith hasParity transport ownStart own systematic blockHasParity someWithoutParity
+unfolding sendings bent toy sendNumber answered misallocated tooFewPlaces share symbolPlaces symbolPlacesOf codedBitsOf numberAt digits readOn valueOf unpacked sumBelow parityBelow
+    allBelow anyBelow firstBelow reduce divideOn remainder checksum attached kb m t z offset tableSize table entry headerRight rises sizesRight offsetDue offsetsRight endsRight shiftRight
+    tableRight wellFormed filled filledBetween firstColumn nextDue nextColumn staircase staircases ceil blockBits kmax blocks ownBits sizeIndexFor sizeIndex places filler square spread bitAt
+    rowEven checks withParity checksWith hasParity transport ownStart own withFiller systematic blockHasParity someWithoutParity
 sendings-answered = refl
 
 -- ---- and receiving
@@ -119,9 +120,9 @@ abbrev pub receivingDue : Receiving → ℕ
 receivingDue c = c .due
 
 pub receivings-answered : map receiving receivings ≡ map receivingDue receivings
-unfolding receivings bent toy receiveNumber answered notOctets misallocated tooFewPlaces share symbolPlaces placesOf bitsOf someOver someWithoutRoom sendable numberAt
-    allTo anyTo firstTo kb m t z offset tableSize table entry headerRight offsetDue lengthRight rises sizeRight shiftRight tableRight wellFormed firstDue nextDue
-    rowRight stairsAt staircase staircases ceil blockBits kmax blocks ownBits whichSizeFor whichSize places filler
+unfolding receivings bent toy receiveNumber answered notOctets misallocated tooFewPlaces share symbolPlaces symbolPlacesOf codedBitsOf someOver someWithoutRoom sendable numberAt
+    sumBelow allBelow anyBelow firstBelow kb m t z offset tableSize table entry headerRight rises sizesRight offsetDue offsetsRight endsRight shiftRight tableRight wellFormed filled filledBetween firstColumn nextDue
+    nextColumn staircase staircases ceil blockBits kmax blocks ownBits sizeIndexFor sizeIndex places filler
 receivings-answered = refl
 
 -- ---- lookup, on a shelf where tenant 1 has the toy record as number 7
@@ -132,15 +133,15 @@ shelf = 0 ∷ 1 ∷ 0 ∷ 1 ∷ 0 ∷ 7 ∷ 0 ∷ 10 ∷ 0 ∷ 22 ∷ toy
 unfoldable pub bare : List ℕ
 bare = 0 ∷ 0 ∷ []
 
-pub record Asking : Type 0 where
+pub record LookupCase : Type 0 where
   pub private : List ℕ
   pub public : List ℕ
   pub tenant : ℕ
   pub number : ℕ
   pub due : ℕ
 
-unfoldable pub askings : List Asking
-askings =
+unfoldable pub lookups : List LookupCase
+lookups =
     record { private = shelf; public = bare; tenant = 1; number = 7; due = 0 }
     ∷ record { private = shelf; public = bare; tenant = 0; number = 7; due = 1 }
     ∷ record { private = []; public = bare; tenant = 1; number = 7; due = 2 }
@@ -148,22 +149,28 @@ askings =
     ∷ record { private = shelf; public = bare; tenant = 2; number = 7; due = 4 }
     ∷ []
 
-abbrev pub asking : Asking → ℕ
-asking c = lookupNumber (c .private) (c .public) (c .tenant) (c .number)
+abbrev pub lookupAnswer : LookupCase → ℕ
+lookupAnswer c = lookupNumber (c .private) (c .public) (c .tenant) (c .number)
 
-abbrev pub askingDue : Asking → ℕ
-askingDue c = c .due
+abbrev pub lookupDue : LookupCase → ℕ
+lookupDue c = c .due
 
-pub askings-answered : map asking askings ≡ map askingDue askings
-unfolding askings shelf bare toy lookupNumber answered numberAt allTo anyTo shelves.wellFormed shelves.sizesRight shelves.endsRight shelves.entryRight shelves.tenantRight
-    shelves.rises shelves.offsetDue shelves.count shelves.tenant shelves.profile shelves.offset shelves.size has isEntry
-askings-answered = refl
+pub lookups-answered : map lookupAnswer lookups ≡ map lookupDue lookups
+unfolding lookups shelf bare toy lookupNumber answered numberAt allBelow anyBelow shelves.wellFormed shelves.rises shelves.offsetDue shelves.chained shelves.endsRight
+    shelves.tenantRight shelves.count shelves.tenant shelves.profile shelves.offset shelves.size has isEntry
+lookups-answered = refl
 
 pub looked-up : lookupRecord shelf bare 1 7 ≡ toy
-unfolding shelf bare toy lookupRecord lookupNumber answered whenDone numberAt allTo anyTo firstTo shelves.wellFormed shelves.sizesRight shelves.endsRight
-    shelves.entryRight shelves.tenantRight shelves.rises shelves.offsetDue shelves.count shelves.tenant shelves.profile shelves.offset shelves.size shelves.recordAt has
+unfolding shelf bare toy lookupRecord lookupNumber answered whenDone numberAt allBelow anyBelow firstBelow shelves.wellFormed shelves.rises shelves.offsetDue shelves.chained
+    shelves.endsRight shelves.tenantRight shelves.count shelves.tenant shelves.profile shelves.offset shelves.size shelves.recordAt has
     isEntry entryOf recordOf
 looked-up = refl
+
+-- ---- "Toy, 13 octets: B 128, C 64", "14 octets: C 68"
+
+pub thirteen-and-fourteen : (blockBits 13 ≡ 128) × (blocks toy (blockBits 13) ≡ 64) × (blocks toy (blockBits 14) ≡ 68)
+unfolding toy numberAt blockBits blocks ceil kmax kb t z
+thirteen-and-fourteen = (refl, refl, refl)
 
 -- ---- "Take an accepted profile, block length and allocation in which every code block has room": there are some
 
@@ -172,29 +179,37 @@ pub record Room (g : ℕ) : Type 0 where
   pub hosted : Roomy (lookupRecord shelf bare 1 7) 1 1 2 g
 
 planned : planNumber toy 1 ≡ 0
-unfolding planNumber answered toy numberAt allTo anyTo kb m t z offset tableSize table entry headerRight offsetDue lengthRight rises sizeRight shiftRight tableRight
-    wellFormed firstDue nextDue rowRight stairsAt staircase staircases ceil blockBits kmax blocks
+unfolding planNumber answered toy numberAt sumBelow allBelow anyBelow kb m t z offset tableSize table entry headerRight rises sizesRight offsetDue offsetsRight endsRight shiftRight tableRight
+    wellFormed filled filledBetween firstColumn nextDue nextColumn staircase staircases ceil blockBits kmax blocks
 planned = refl
 
 roomy : (g : ℕ) → Roomy toy 1 1 2 g → Room g
 roomy g h = record { direct = h; hosted = subst (λ (R : List ℕ). Roomy R 1 1 2 g) (sym looked-up) h }
 
 pub room-128 : Room 128
-unfolding misallocated tooFewPlaces someWithoutRoom sendable share symbolPlaces placesOf bitsOf toy numberAt anyTo firstTo kb m t z ceil blockBits kmax blocks ownBits
-    whichSizeFor whichSize places filler
+unfolding misallocated tooFewPlaces someWithoutRoom sendable share symbolPlaces symbolPlacesOf codedBitsOf toy numberAt anyBelow firstBelow kb m t z ceil blockBits kmax blocks ownBits
+    sizeIndexFor sizeIndex places filler
 room-128 = roomy 128 (record { taken = planned; allocation = refl; enough = refl; room = refl })
 
 pub room-130 : Room 130
-unfolding misallocated tooFewPlaces someWithoutRoom sendable share symbolPlaces placesOf bitsOf toy numberAt anyTo firstTo kb m t z ceil blockBits kmax blocks ownBits
-    whichSizeFor whichSize places filler
+unfolding misallocated tooFewPlaces someWithoutRoom sendable share symbolPlaces symbolPlacesOf codedBitsOf toy numberAt anyBelow firstBelow kb m t z ceil blockBits kmax blocks ownBits
+    sizeIndexFor sizeIndex places filler
 room-130 = roomy 130 (record { taken = planned; allocation = refl; enough = refl; room = refl })
 
 pub room-256 : Room 256
-unfolding misallocated tooFewPlaces someWithoutRoom sendable share symbolPlaces placesOf bitsOf toy numberAt anyTo firstTo kb m t z ceil blockBits kmax blocks ownBits
-    whichSizeFor whichSize places filler
+unfolding misallocated tooFewPlaces someWithoutRoom sendable share symbolPlaces symbolPlacesOf codedBitsOf toy numberAt anyBelow firstBelow kb m t z ceil blockBits kmax blocks ownBits
+    sizeIndexFor sizeIndex places filler
 room-256 = roomy 256 (record { taken = planned; allocation = refl; enough = refl; room = refl })
 
 -- ---- a reception that is accepted: the 128 bits of P10
+
+sent-128 : radioBits toy (blockBits 1) (transport (0x01 ∷ [])) 1 2 128 ≡ unpacked p10Octets
+unfolding cases toySent
+sent-128 = ap (λ (l : List (List ℕ)). drop 3 (getD l 9 [])) worked
+
+sent-130 : radioBits toy (blockBits 1) (transport (0x01 ∷ [])) 1 2 130 ≡ unpacked p10Octets ++ (0 ∷ 0 ∷ [])
+unfolding cases toySent
+sent-130 = ap (λ (l : List (List ℕ)). drop 3 (getD l 10 [])) worked
 
 -- a call of `send` that keeps its promise
 abbrev answerOf : ℕ → ℕ → Written
@@ -202,7 +217,7 @@ answerOf n k = record { number = n; count = whenDone n k 0 }
 
 sent-so : (R block : List ℕ) (nl qm g : ℕ) (out : List ℕ)
     → Sent R block nl qm g out (answerOf (sendNumber R block nl qm g (length out)) g)
-    (whenDone (sendNumber R block nl qm g (length out)) (sent R block nl qm g ++ drop g out) out)
+    (whenDone (sendNumber R block nl qm g (length out)) (radioBits R (blockBits (length block)) (transport block) nl qm g ++ drop g out) out)
 sent-so R block nl qm g out = record { number = refl; count = refl; output = refl }
 
 one-octet : AreOctets (0x01 ∷ [])
@@ -214,30 +229,30 @@ unfolding sendings
 done-128 = ap (λ (l : List ℕ). getD l 0 0) sendings-answered
 
 -- "receiving the sent bits returns the block", and the octet behind it stays as it was
-pub accepted : {r : Written} {buf' : List ℕ} → Received toy 8 1 2 (unpacked sixteen) (0x55 ∷ 0xAA ∷ []) r buf'
+pub accepted : {r : Written} {buf' : List ℕ} → Received toy 8 1 2 (unpacked p10Octets) (0x55 ∷ 0xAA ∷ []) r buf'
     → (r .number ≡ 0) × (r .count ≡ 1) × (buf' ≡ 0x01 ∷ 0xAA ∷ [])
-unfolding sixteen
+unfolding p10Octets
 accepted {r} {buf'} v =
     let s = sent-so toy (0x01 ∷ []) 1 2 128 (replicate 128 0) in
-    let o : List ℕ = whenDone (sendNumber toy (0x01 ∷ []) 1 2 128 128) (sent toy (0x01 ∷ []) 1 2 128 ++ drop 128 (replicate 128 0)) (replicate 128 0) in
-    let is : take 128 o ≡ unpacked sixteen = sent-front s done-128 ∙ worked .p10 in
+    let o : List ℕ = whenDone (sendNumber toy (0x01 ∷ []) 1 2 128 128) (radioBits toy (blockBits 1) (transport (0x01 ∷ [])) 1 2 128 ++ drop 128 (replicate 128 0)) (replicate 128 0) in
+    let is : take 128 o ≡ unpacked p10Octets = sent-front s done-128 ∙ sent-128 in
     let got = sent-returns (room-128 .direct) one-octet (lit≤ tt) s done-128
     (subst (λ (l : List ℕ). Received toy 8 1 2 l (0x55 ∷ 0xAA ∷ []) r buf') (sym is) v) in
     (got .0, got .1, got .3)
 
 -- the same for tenant 1, who has the toy record as number 7
-pub hosted-accepted : {r : Written} {buf' : List ℕ} → HostedReceived shelf bare 1 7 8 1 2 (unpacked sixteen) (0x55 ∷ 0xAA ∷ []) r buf'
+pub hosted-accepted : {r : Written} {buf' : List ℕ} → HostedReceived shelf bare 1 7 8 1 2 (unpacked p10Octets) (0x55 ∷ 0xAA ∷ []) r buf'
     → (r .number ≡ 0) × (r .count ≡ 1) × (buf' ≡ 0x01 ∷ 0xAA ∷ [])
-unfolding askings
+unfolding lookups
 hosted-accepted {r} {buf'} v =
-    let z : lookupNumber shelf bare 1 7 ≡ 0 = ap (λ (l : List ℕ). getD l 0 0) askings-answered in
-    accepted (subst (λ (R : List ℕ). Received R 8 1 2 (unpacked sixteen) (0x55 ∷ 0xAA ∷ []) r buf') looked-up (receive-hosted shelf bare 1 7 z v))
+    let z : lookupNumber shelf bare 1 7 ≡ 0 = ap (λ (l : List ℕ). getD l 0 0) lookups-answered in
+    accepted (subst (λ (R : List ℕ). Received R 8 1 2 (unpacked p10Octets) (0x55 ∷ 0xAA ∷ []) r buf') looked-up (v .found z))
 
 -- ---- receptions that are refused with 14
 
 module _ (bits : List ℕ) (h : Roomy toy 1 1 2 (length bits)) (none : someOver 1 bits ≡ false) where
-  heard : Heard toy 1 1 2 bits
-  heard =
+  receivable : Receivable toy 1 1 2 bits
+  receivable =
       record {
         taken = h .taken;
         allocated = allocated 1 2 (length bits) (blocks toy (blockBits 1)) (h .allocation) (plan-cut toy 1 (h .taken) .some);
@@ -246,20 +261,21 @@ module _ (bits : List ℕ) (h : Roomy toy 1 1 2 (length bits)) (none : someOver 
       }
 
   -- only one list of transport bits can have been sent as them: where no block has it, or it is not sent as them, they are refused
-  refused : ((block : List ℕ) → transport block ≡ gathered toy (blockBits 1) 1 2 bits → sent toy block 1 2 (length bits) ≡ bits → ⊥)
+  refused : ((block : List ℕ) → transport block ≡ gathered toy (blockBits 1) 1 2 bits → radioBits toy (blockBits 1) (transport block) 1 2 (length bits) ≡ bits → ⊥)
       → {buf : List ℕ} {r : Written} {buf' : List ℕ} → 1 ≤ length buf → Received toy 8 1 2 bits buf r buf' → r .number ≡ 14
   refused other fits v =
       unsent-exactly h (over-none-bits bits none) fits v .1
-      (λ block whole size s.
-      let is : sent toy block 1 2 (length bits) ≡ bits = sym (sent-front (s .promise) (s .done)) ∙ s .bits-are in
-      other block (block-gathered toy 1 1 2 bits heard block size is) is)
+      (λ block whole size out w out' s done e.
+      let is : radioBits toy (blockBits (length block)) (transport block) 1 2 (length bits) ≡ bits = sym (sent-front s done) ∙ e in
+      other block (block-gathered toy 1 1 2 bits receivable block size is)
+      (ap (λ (n : ℕ). radioBits toy (blockBits n) (transport block) 1 2 (length bits)) (sym size) ∙ is))
 
 -- "the checksum": all ones
 unfoldable pub ones : List ℕ
 ones = replicate 128 1
 
 ones-gathered : testing.checks 24 crc.gen24A (gathered toy (blockBits 1) 1 2 ones) ≡ false
-unfolding ones toy gathered ownHeard shareStart joined share symbolPlaces placesOf bitsOf numberAt digits readOn number sumTo firstTo anyTo reduce divideOn remainder
+unfolding ones toy gathered ownReceived shareStart joined share symbolPlaces symbolPlacesOf codedBitsOf numberAt digits readOn valueOf sumBelow firstBelow anyBelow reduce divideOn remainder
     checksum attached kb m t z ceil blockBits kmax blocks ownBits testing.checks
 ones-gathered = refl
 
@@ -273,45 +289,39 @@ ones-refused fits v =
 
 -- bits that are gathered as those of octet 01 are, but are not what it is sent as
 module _ (bits : List ℕ) (h : Roomy toy 1 1 2 (length bits)) (none : someOver 1 bits ≡ false)
-    (e : gathered toy (blockBits 1) 1 2 bits ≡ transport (0x01 ∷ [])) (other : sent toy (0x01 ∷ []) 1 2 (length bits) ≡ bits → ⊥) where
+    (e : gathered toy (blockBits 1) 1 2 bits ≡ transport (0x01 ∷ [])) (other : radioBits toy (blockBits 1) (transport (0x01 ∷ [])) 1 2 (length bits) ≡ bits → ⊥) where
   refused-one : {buf : List ℕ} {r : Written} {buf' : List ℕ} → 1 ≤ length buf → Received toy 8 1 2 bits buf r buf' → r .number ≡ 14
-  unfolding sent
   refused-one fits v =
       refused bits h none
-      (λ block q is.
-      other (ap (λ (u : List ℕ). padded (length bits) (joined (blocks toy (length u)) (blockSent toy u 1 2 (length bits)))) (sym e ∙ sym q) ∙ is))
+      (λ block q is. other (ap (λ (u : List ℕ). radioBits toy (blockBits 1) u 1 2 (length bits)) (sym e ∙ sym q) ∙ is))
       fits v
 
 -- "all parity rows": the bits of P10 with a parity bit of the first block turned over, the other blocks as they were
 unfoldable pub turned : List ℕ
-turned = set (unpacked sixteen) 7 1
+turned = set (unpacked p10Octets) 7 1
 
 -- "zeros at the end": with two bits more, the last of which is 1
 unfoldable pub ended : List ℕ
-ended = unpacked sixteen ++ (0 ∷ 1 ∷ [])
+ended = unpacked p10Octets ++ (0 ∷ 1 ∷ [])
 
 turned-gathered : gathered toy (blockBits 1) 1 2 turned ≡ transport (0x01 ∷ [])
-unfolding turned sixteen toy gathered ownHeard shareStart joined share symbolPlaces placesOf bitsOf numberAt digits unpacked readOn number sumTo firstTo anyTo reduce divideOn
+unfolding turned p10Octets toy gathered ownReceived shareStart joined share symbolPlaces symbolPlacesOf codedBitsOf numberAt digits unpacked readOn valueOf sumBelow firstBelow anyBelow reduce divideOn
     remainder checksum attached transport kb m t z ceil blockBits kmax blocks ownBits
 turned-gathered = refl
 
 ended-gathered : gathered toy (blockBits 1) 1 2 ended ≡ transport (0x01 ∷ [])
-unfolding ended sixteen toy gathered ownHeard shareStart joined share symbolPlaces placesOf bitsOf numberAt digits unpacked readOn number sumTo firstTo anyTo reduce divideOn
+unfolding ended p10Octets toy gathered ownReceived shareStart joined share symbolPlaces symbolPlacesOf codedBitsOf numberAt digits unpacked readOn valueOf sumBelow firstBelow anyBelow reduce divideOn
     remainder checksum attached transport kb m t z ceil blockBits kmax blocks ownBits
 ended-gathered = refl
 
 pub turned-refused : {buf : List ℕ} {r : Written} {buf' : List ℕ} → 1 ≤ length buf → Received toy 8 1 2 turned buf r buf' → r .number ≡ 14
-unfolding turned sixteen digits unpacked someOver
+unfolding turned p10Octets digits unpacked someOver
 turned-refused fits v =
     refused-one turned (room-128 .direct) refl turned-gathered
-    (λ e. let z : _≡_ {A = ℕ} 0 1 = ap (λ (l : List ℕ). getD l 7 0) (sym (worked .p10) ∙ e) in omega arith) fits v
-
-sent-130 : sent toy (0x01 ∷ []) 1 2 130 ≡ unpacked sixteen ++ (0 ∷ 0 ∷ [])
-unfolding sends.cases
-sent-130 = ap (λ (l : List (List ℕ)). getD l 1 []) sends.worked
+    (λ e. let z : _≡_ {A = ℕ} 0 1 = ap (λ (l : List ℕ). getD l 7 0) (sym (sent-128) ∙ e) in omega arith) fits v
 
 pub ended-refused : {buf : List ℕ} {r : Written} {buf' : List ℕ} → 1 ≤ length buf → Received toy 8 1 2 ended buf r buf' → r .number ≡ 14
-unfolding ended sixteen digits unpacked someOver
+unfolding ended p10Octets digits unpacked someOver
 ended-refused fits v =
     refused-one ended (room-130 .direct) refl ended-gathered
     (λ e. let z : _≡_ {A = ℕ} 0 1 = ap (λ (l : List ℕ). getD l 129 0) (sym sent-130 ∙ e) in omega arith) fits v
@@ -322,21 +332,41 @@ doubled [] = []
 doubled (x ∷ l) = x ∷ x ∷ doubled l
 
 unfoldable pub copied : List ℕ
-copied = set (unpacked (doubled sixteen)) 255 1
+copied = set (unpacked (doubled p10Octets)) 255 1
 
-sent-256 : sent toy (0x01 ∷ []) 1 2 256 ≡ unpacked (doubled sixteen)
-unfolding doubled toy sixteen digits readOn number unpacked numberAt placesOf bitsOf sumTo parityTo allTo anyTo firstTo reduce divideOn remainder checksum attached kb m t z
-    offset tableSize table entry ceil kmax blocks ownBits whichSizeFor whichSize places filler square spread bitAt rowEven checks withParity checksWith coded transport ownStart own
-    systematic codedBlock symbolPlaces share kept listTo matched blockSent joined padded sent
+sent-256 : radioBits toy (blockBits 1) (transport (0x01 ∷ [])) 1 2 256 ≡ unpacked (doubled p10Octets)
+unfolding doubled toy p10Octets digits readOn valueOf unpacked numberAt symbolPlacesOf codedBitsOf sumBelow parityBelow allBelow anyBelow firstBelow reduce divideOn remainder checksum attached blockBits kb m t z
+    offset tableSize table entry ceil kmax blocks ownBits sizeIndexFor sizeIndex places filler square spread bitAt rowEven checks withParity checksWith coded transport ownStart own
+    withFiller systematic codedBlock symbolPlaces share kept listBelow matched blockSent joined padded radioBits
 sent-256 = refl
 
 copied-gathered : gathered toy (blockBits 1) 1 2 copied ≡ transport (0x01 ∷ [])
-unfolding doubled copied sixteen toy gathered ownHeard shareStart joined share symbolPlaces placesOf bitsOf numberAt digits unpacked readOn number sumTo firstTo anyTo reduce
+unfolding doubled copied p10Octets toy gathered ownReceived shareStart joined share symbolPlaces symbolPlacesOf codedBitsOf numberAt digits unpacked readOn valueOf sumBelow firstBelow anyBelow reduce
     divideOn remainder checksum attached transport kb m t z ceil blockBits kmax blocks ownBits
 copied-gathered = refl
 
 pub copied-refused : {buf : List ℕ} {r : Written} {buf' : List ℕ} → 1 ≤ length buf → Received toy 8 1 2 copied buf r buf' → r .number ≡ 14
-unfolding doubled copied sixteen digits unpacked someOver
+unfolding doubled copied p10Octets digits unpacked someOver
 copied-refused fits v =
     refused-one copied (room-256 .direct) refl copied-gathered
     (λ e. let z : _≡_ {A = ℕ} 0 1 = ap (λ (l : List ℕ). getD l 255 0) (sym sent-256 ∙ e) in omega arith) fits v
+
+-- ---- the least G: octet 01 with the toy is 16 blocks of 8 bits, so 128 are the least that have room
+
+least-cut : cutNumber toy 1 1 2 ≡ 0
+unfolding cutNumber answered toy numberAt sumBelow allBelow anyBelow kb m t z offset tableSize table entry headerRight rises sizesRight offsetDue offsetsRight endsRight shiftRight
+    tableRight wellFormed filled filledBetween firstColumn nextDue nextColumn staircase staircases ceil blockBits kmax blocks misallocated
+least-cut = refl
+
+least-count : blocks toy (blockBits 1) ≡ 16
+unfolding toy numberAt kb t z ceil blockBits kmax blocks
+least-count = refl
+
+least-most : mostSendable toy 1 ≡ 8
+unfolding mostSendable sendable toy numberAt firstBelow anyBelow kb m t z ceil blockBits kmax blocks ownBits sizeIndexFor sizeIndex places filler
+least-most = refl
+
+pub least-told : LeastRoom toy 1 1 2 (record { number = 0; bits = record { 0 = 128 }; blocks = 16; share = record { 0 = 8 } })
+unfolding ceil
+least-told =
+    last-done toy 1 1 2 least-cut (rw (least-count, least-most) (omega arith)) _ refl (rw (least-count, least-most)) (rw least-count) (rw least-most)

@@ -1,73 +1,60 @@
--- A hosted call whose lookup is done promises what the call on the record promises, and the other way round. Assumes nothing.
+-- What the first demand says of a hosted call, from what it says of the call on the record that was found: once for all hosted calls.
 use mathlib.Core.Path.{_≡_, sym, ap, _∙_}
+use mathlib.Core.Bool.{Bool, true}
 use mathlib.Core.List.{List, [], _++_}
-use Prim.Native.Nat.{ℕ, _/_}
+use Prim.Native.Nat.{ℕ}
 use native.Mathlib.Omega.{arith}
-use lib.ListN.{length, drop}
-use Rattle.bits.specs.Numbers.{answered, whenDone}
+use Rattle.bits.specs.Bits.{numberAt}
+use Rattle.bits.specs.Numbers.{answered}
 use Rattle.bits.specs.declared.number.Written.{Written}
-use Rattle.bits.proofs.Answers.{when-done, when-refused}
+use Rattle.bits.proofs.Answers.{Refusals, first-part, last-part, when-refused}
 use Rattle.bits.proofs.Ranges.{equal-or}
-use Rattle.profile.specs.Record.{headerRight, wellFormed}
+use Rattle.profile.specs.Record.{kb, headerRight, wellFormed}
 use Rattle.profile.specs.Promises.{planNumber}
-use Rattle.coding.specs.Joining.{sent}
-use Rattle.coding.specs.Receiving.{received}
-use Rattle.coding.specs.Promises.{sendNumber, Sent, receiveNumber, Received}
-use Rattle.shelf.specs.Lookup.{lookupNumber, lookupRecord}
-use Rattle.shelf.specs.Promises.{hostedSendNumber, HostedSent, hostedReceiveNumber, HostedReceived}
+use Rattle.shelf.specs.Lookup.{lookupConditions, lookupNumber, lookupRecord}
+use Rattle.shelf.specs.Promises.{Hosted}
+use Rattle.demands.specs.Numbers.{Answers}
+use Rattle.demands.specs.Outputs.{Confined, Alike}
+use Rattle.demands.proofs.Lowest.{rising, answers}
+use Rattle.demands.proofs.Outputs.{untouched}
 
 -- nothing is no profile record
 none-planned : (octets : ℕ) → planNumber [] octets ≡ 0 → ⊥
-unfolding planNumber answered wellFormed headerRight
+unfolding planNumber answered wellFormed headerRight kb numberAt
 none-planned octets e = omega arith
 
-module _ (private public : List ℕ) (t p : ℕ) where
-  abbrev R : List ℕ
-  R = lookupRecord private public t p
+-- a lookup that refuses gives nothing, so an accepted profile was looked up
+pub planned-found : (private public : List ℕ) (t p octets : ℕ) → planNumber (lookupRecord private public t p) octets ≡ 0 → lookupNumber private public t p ≡ 0
+unfolding lookupRecord
+planned-found private public t p octets e =
+    equal-or (lookupNumber private public t p) 0 (λ z. z)
+    (λ n. absurd (none-planned octets (ap (λ (l : List ℕ). planNumber l octets) (sym (when-refused (lookupNumber private public t p) _ [] n)) ∙ e)))
 
-  -- a lookup that refuses gives nothing, so an accepted profile was looked up
-  pub looked-up : (octets : ℕ) → planNumber R octets ≡ 0 → lookupNumber private public t p ≡ 0
-  unfolding lookupRecord
-  looked-up octets e =
-      equal-or (lookupNumber private public t p) 0 (λ z. z)
-      (λ n. absurd (none-planned octets (ap (λ (l : List ℕ). planNumber l octets) (sym (when-refused (lookupNumber private public t p) _ [] n)) ∙ e)))
+module _ {private public : List ℕ} {t p : ℕ} {promised : List ℕ → Type 0} {out : List ℕ} {r : Written} {o : List ℕ}
+    (h : Hosted private public t p promised out r o) where
+  -- lookup's numbers, and then those of the call on the record
+  pub hosted-answers : (last : List (ℕ × Bool)) → rising 0 (lookupConditions private public t p ++ last) ≡ true
+      → (promised (lookupRecord private public t p) → r .number ≡ answered last) → Answers (r .number) (lookupConditions private public t p ++ last)
+  unfolding lookupNumber Refusals
+  hosted-answers last up is =
+      let first = lookupConditions private public t p in
+      answers (first ++ last) up
+      (equal-or (answered first) 0
+      (λ z. is (h .found z) ∙ sym (last-part first last tt z))
+      (λ n. ap (λ (w : Written). w .number) (h .refused n .0) ∙ sym (first-part first last n)))
 
-  module _ (z : lookupNumber private public t p ≡ 0) where
-    send-number-is : (block : List ℕ) (nl qm g room : ℕ) → hostedSendNumber private public t p block nl qm g room ≡ sendNumber R block nl qm g room
-    unfolding hostedSendNumber
-    send-number-is block nl qm g room = when-done (lookupNumber private public t p) _ _ z
+  pub hosted-confined : (promised (lookupRecord private public t p) → Confined out r o) → Confined out r o
+  hosted-confined confined =
+      equal-or (lookupNumber private public t p) 0
+      (λ z. confined (h .found z))
+      (λ n. untouched (ap (λ (w : Written). w .count) (h .refused n .0)) (h .refused n .1))
 
-    receive-number-is : (a nl qm : ℕ) (bits : List ℕ) (room : ℕ)
-        → hostedReceiveNumber private public t p a nl qm bits room ≡ receiveNumber R a nl qm bits room
-    unfolding hostedReceiveNumber
-    receive-number-is a nl qm bits room = when-done (lookupNumber private public t p) _ _ z
-
-    pub send-hosted : {block : List ℕ} {nl qm g : ℕ} {out : List ℕ} {r : Written} {o : List ℕ}
-        → HostedSent private public t p block nl qm g out r o → Sent (lookupRecord private public t p) block nl qm g out r o
-    send-hosted {block} {nl} {qm} {g} {out} a =
-        let n = send-number-is block nl qm g (length out) in
-        record {
-          number = a .number ∙ n;
-          count = a .count ∙ ap (λ (k : ℕ). whenDone k g 0) n;
-          output = a .output ∙ ap (λ (k : ℕ). whenDone k (sent R block nl qm g ++ drop g out) out) n;
-        }
-
-    pub hosted-send : {block : List ℕ} {nl qm g : ℕ} {out : List ℕ} {r : Written} {o : List ℕ}
-        → Sent (lookupRecord private public t p) block nl qm g out r o → HostedSent private public t p block nl qm g out r o
-    hosted-send {block} {nl} {qm} {g} {out} a =
-        let n = sym (send-number-is block nl qm g (length out)) in
-        record {
-          number = a .number ∙ n;
-          count = a .count ∙ ap (λ (k : ℕ). whenDone k g 0) n;
-          output = a .output ∙ ap (λ (k : ℕ). whenDone k (sent R block nl qm g ++ drop g out) out) n;
-        }
-
-    pub receive-hosted : {a nl qm : ℕ} {bits out : List ℕ} {r : Written} {o : List ℕ}
-        → HostedReceived private public t p a nl qm bits out r o → Received (lookupRecord private public t p) a nl qm bits out r o
-    receive-hosted {a} {nl} {qm} {bits} {out} h =
-        let n = receive-number-is a nl qm bits (length out) in
-        record {
-          number = h .number ∙ n;
-          count = h .count ∙ ap (λ (k : ℕ). whenDone k (a / 8) 0) n;
-          output = h .output ∙ ap (λ (k : ℕ). whenDone k (received R (a / 8) nl qm bits ++ drop (a / 8) out) out) n;
-        }
+  pub hosted-alike : {promised' : List ℕ → Type 0} {other : List ℕ} {s : Written} {u : List ℕ} → Hosted private public t p promised' other s u
+      → (promised (lookupRecord private public t p) → promised' (lookupRecord private public t p) → Alike r o s u) → Alike r o s u
+  hosted-alike {s = s} {u = u} k alike =
+      equal-or (lookupNumber private public t p) 0
+      (λ z. alike (h .found z) (k .found z))
+      (λ n.
+      let c : r .count ≡ 0 = ap (λ (w : Written). w .count) (h .refused n .0) in
+      let d : s .count ≡ 0 = ap (λ (w : Written). w .count) (k .refused n .0) in
+      record { answer = h .refused n .0 ∙ sym (k .refused n .0); octets = rw (c, d) })

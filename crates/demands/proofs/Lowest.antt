@@ -1,15 +1,14 @@
--- The number that is answered is the lowest whose condition holds. Assumes nothing.
+-- The number that is answered is the lowest whose condition holds.
 use mathlib.Core.Path.{_≡_, refl, sym, _∙_}
 use mathlib.Core.Bool.{Bool, true, false, _&&_}
-use mathlib.Core.List.{List, [], _∷_, _++_}
+use mathlib.Core.List.{List, [], _∷_}
 use mathlib.Core.Logic.{_⊎_, inl, inr}
 use Prim.Native.Nat.{ℕ, _≤_, _<_}
 use native.Mathlib.Omega.{arith}
 use borrow.Author.Tests.{ltb-true}
 use lib.Dec.{ltb}
-use Rattle.bits.specs.Numbers.{answered, whenDone}
-use Rattle.bits.proofs.Answers.{first-part, last-part, Refusals, when-done, when-refused}
-use Rattle.bits.proofs.Ranges.{both, equal-or}
+use Rattle.bits.specs.Numbers.{answered}
+use Rattle.bits.proofs.Ranges.{both}
 use Rattle.demands.specs.Numbers.{Applies, NoneBelow, NoneHolds, Answers}
 
 -- n's condition holds, and none that comes before it does
@@ -93,11 +92,3 @@ answers l up e =
       done = λ h. e ∙ none-answered l h;
       only-done = λ q. answered-none l 0 up (sym e ∙ q);
     }
-
--- ---- a call that does another first: the first one's number where it refuses, else the second one's
-
-pub one-list : (xs ys : List (ℕ × Bool)) → Refusals xs → whenDone (answered xs) (answered ys) (answered xs) ≡ answered (xs ++ ys)
-one-list xs ys all =
-    equal-or (answered xs) 0
-    (λ e. when-done (answered xs) (answered ys) (answered xs) e ∙ sym (last-part xs ys all e))
-    (λ n. when-refused (answered xs) (answered ys) (answered xs) n ∙ sym (first-part xs ys n))

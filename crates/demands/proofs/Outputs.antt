@@ -1,6 +1,6 @@
 -- A call that writes so many octets to the front of its output where it answers 0, and nothing else: what the first demand says of it, once for all
--- such calls. Assumes nothing.
-use mathlib.Core.Path.{_≡_, sym, ap, ap₂, _∙_}
+-- such calls.
+use mathlib.Core.Path.{_≡_, sym, ap, _∙_}
 use mathlib.Core.List.{List, _++_}
 use Prim.Native.Nat.{ℕ, _≤_}
 use native.Mathlib.Omega.{arith}
@@ -10,7 +10,8 @@ use Rattle.bits.specs.Numbers.{whenDone}
 use Rattle.bits.specs.declared.number.Written.{Written}
 use Rattle.bits.proofs.Answers.{when-done, when-refused}
 use Rattle.bits.proofs.Ranges.{equal-or}
-use Rattle.demands.specs.Outputs.{Kept, Alike}
+use Rattle.bits.proofs.Written.{same-written}
+use Rattle.demands.specs.Outputs.{Confined, Alike}
 
 -- the shape: n is the number by the output's length, w the k octets that are written
 pub record Writes (n : ℕ → ℕ) (k : ℕ) (w out : List ℕ) (r : Written) (out' : List ℕ) : Type 0 where
@@ -23,16 +24,13 @@ pub record Fitting (n : ℕ → ℕ) (k : ℕ) (w : List ℕ) : Type 0 where
   pub size : (room : ℕ) → n room ≡ 0 → length w ≡ k
   pub room : (room : ℕ) → n room ≡ 0 → k ≤ room
 
-made : ℕ → ℕ → Written
-made n c = record { number = n; count = c }
-
-same : (a b : Written) → a .number ≡ b .number → a .count ≡ b .count → a ≡ b
-unfolding made
-same a b p q = ap₂ made p q
+-- nothing is counted, and nothing is written
+pub untouched : {out : List ℕ} {r : Written} {out' : List ℕ} → r .count ≡ 0 → out' ≡ out → Confined out r out'
+untouched {out} {r} {out'} c o = record { refused = λ some. (c, o); within = omega arith; past = ap (drop (r .count)) o; size = ap length o }
 
 module _ {n : ℕ → ℕ} {k : ℕ} {w : List ℕ} (f : Fitting n k w) where
-  pub kept : {out : List ℕ} {r : Written} {out' : List ℕ} → Writes n k w out r out' → Kept out r out'
-  kept {out} {r} {out'} h =
+  pub confined : {out : List ℕ} {r : Written} {out' : List ℕ} → Writes n k w out r out' → Confined out r out'
+  confined {out} {r} {out'} h =
       equal-or (n (length out)) 0
       (λ e.
       let c : r .count ≡ k = h .count ∙ when-done (n (length out)) k 0 e in
@@ -46,9 +44,7 @@ module _ {n : ℕ → ℕ} {k : ℕ} {w : List ℕ} (f : Fitting n k w) where
         size = ap length o ∙ length-append w (drop k out) ∙ omega (arith, length-drop k out);
       })
       (λ some.
-      let c : r .count ≡ 0 = h .count ∙ when-refused (n (length out)) k 0 some in
-      let o : out' ≡ out = h .output ∙ when-refused (n (length out)) (w ++ drop k out) out some in
-      record { refused = λ s. (c, o); within = omega arith; past = ap (drop (r .count)) o; size = ap length o })
+      untouched (h .count ∙ when-refused (n (length out)) k 0 some) (h .output ∙ when-refused (n (length out)) (w ++ drop k out) out some))
 
   pub alike : {out : List ℕ} {r : Written} {out' other : List ℕ} {s : Written} {other' : List ℕ} → length out ≡ length other
       → Writes n k w out r out' → Writes n k w other s other' → Alike r out' s other'
@@ -56,7 +52,7 @@ module _ {n : ℕ → ℕ} {k : ℕ} {w : List ℕ} (f : Fitting n k w) where
       let number : r .number ≡ s .number = a .number ∙ ap n e ∙ sym (b .number) in
       let count : r .count ≡ s .count = a .count ∙ ap (λ (l : ℕ). whenDone (n l) k 0) e ∙ sym (b .count) in
       record {
-        answer = same r s number count;
+        answer = same-written r s number count;
         octets = equal-or (n (length out)) 0
             (λ z.
             let y : n (length other) ≡ 0 = ap n (sym e) ∙ z in

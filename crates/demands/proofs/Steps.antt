@@ -1,4 +1,4 @@
--- What a transport block is sent as follows the six steps of document 01, and no other bits do. Assumes nothing.
+-- What a transport block is sent as follows the six steps of document 01, and no other bits do.
 use mathlib.Core.Path.{_≡_, refl, sym, ap, ap₂, _∙_, subst}
 use mathlib.Core.Bool.{true, false, not}
 use mathlib.Core.List.{List, _++_}
@@ -8,13 +8,13 @@ use native.Mathlib.Omega.{arith}
 use borrow.Author.Tests.{not-false}
 use lib.ListN.{length, getD, take, drop, replicate, length-append, length-replicate, take-append-drop}
 use lib.Seq.{drop-at, take-all}
-use Rattle.bits.specs.Counts.{placesOf, bitsOf}
-use Rattle.bits.specs.Ranges.{sumTo}
+use Rattle.bits.specs.Counts.{symbolPlacesOf, codedBitsOf}
+use Rattle.bits.specs.Ranges.{sumBelow}
 use Rattle.bits.proofs.Lists.{length-part}
 use Rattle.bits.proofs.Ranges.{none-any}
 use Rattle.checksum.specs.Crc.{attached}
 use Rattle.profile.specs.Record.{kb, m, z, table}
-use Rattle.profile.specs.Plan.{blockBits, blocks, ownBits, whichSize, places, filler}
+use Rattle.profile.specs.Plan.{blockBits, blocks, ownBits, sizeIndex, places, filler}
 use Rattle.profile.specs.Promises.{planNumber}
 use Rattle.profile.proofs.Plans.{Cut, plan-passed, plan-cut}
 use Rattle.parity.specs.Matrix.{checks}
@@ -22,19 +22,19 @@ use Rattle.parity.specs.Coded.{hasParity, coded}
 use Rattle.parity.proofs.Coded.{coded-length, coded-take, coded-bits, coded-checks, coded-unique}
 use Rattle.parity.proofs.Ready.{table-stairs}
 use Rattle.coding.specs.Transport.{transport}
-use Rattle.coding.specs.Cutting.{ownStart, own, systematic}
+use Rattle.coding.specs.Cutting.{ownStart, own, systematic, withFiller}
 use Rattle.coding.specs.Blocks.{blockHasParity, codedBlock, someWithoutParity}
 use Rattle.coding.specs.Allocation.{symbolPlaces, share}
 use Rattle.coding.specs.Matching.{kept, matched}
-use Rattle.coding.specs.Joining.{blockSent, joined, padded, sent}
+use Rattle.coding.specs.Joining.{blockSent, joined, padded, radioBits}
 use Rattle.coding.proofs.Joining.{joined-part, joined-same, joined-cut}
 use Rattle.coding.proofs.Places.{length-list}
 use Rattle.coding.proofs.RoundTrip.{sent-length, sent-bits}
 use Rattle.coding.proofs.Shares.{sum-mono}
-use Rattle.coding.proofs.Transported.{length-transport}
-use Rattle.demands.specs.Steps.{blockCount, blockPlaces, blockTable, blockShare, Word, Steps}
+use Rattle.coding.proofs.Transported.{length-transport, transport-bits}
+use Rattle.demands.specs.Steps.{blockCount, blockPlaces, blockIndex, blockShare, Word, Steps}
 
-module _ (R block : List ℕ) (nl qm g : ℕ) (taken : planNumber R (length block) ≡ 0) (parity : someWithoutParity R block ≡ false) where
+module _ (R block : List ℕ) (nl qm g : ℕ) (taken : planNumber R (length block) ≡ 0) (parity : someWithoutParity R (blockBits (length block)) (transport block) ≡ false) where
   abbrev u : List ℕ
   u = transport block
 
@@ -45,7 +45,7 @@ module _ (R block : List ℕ) (nl qm g : ℕ) (taken : planNumber R (length bloc
   c = blocks R b
 
   abbrev i : ℕ
-  i = whichSize R b
+  i = sizeIndex R b
 
   cut : Cut R b
   cut = plan-cut R (length block) taken
@@ -58,12 +58,12 @@ module _ (R block : List ℕ) (nl qm g : ℕ) (taken : planNumber R (length bloc
 
   -- ---- the own bits
 
-  own-is : (r : ℕ) → own R u r ≡ take (mine r) (drop (ownStart R b r) u)
+  own-is : (r : ℕ) → own R b u r ≡ take (mine r) (drop (ownStart R b r) u)
   unfolding own mine
-  own-is r = rw size
+  own-is r = refl
 
-  own-size : (r : ℕ) → r < c → length (own R u r) ≡ mine r
-  unfolding ownStart sumTo mine
+  own-size : (r : ℕ) → r < c → length (own R b u r) ≡ mine r
+  unfolding ownStart sumBelow mine
   own-size r l =
       let within : suc r ≤ c = omega arith in
       ap length (own-is r) ∙ length-part (mine r) (ownStart R b r) u (omega (arith, size, cut .own-sum, sum-mono mine (suc r) c within))
@@ -72,39 +72,39 @@ module _ (R block : List ℕ) (nl qm g : ℕ) (taken : planNumber R (length bloc
   unfolding mine
   own-fits r = omega (arith, cut .own-most r, cut .room)
 
-  own-together : joined c (own R u) ≡ u
+  own-together : joined c (own R b u) ≡ u
   unfolding ownStart mine
   own-together =
-      joined-same (own R u) (λ r. take (mine r) (drop (ownStart R b r) u)) c (λ r l. own-is r) ∙ joined-cut mine u c
+      joined-same (own R b u) (λ r. take (mine r) (drop (ownStart R b r) u)) c (λ r l. own-is r) ∙ joined-cut mine u c
       ∙ ap (λ (n : ℕ). take n u) (cut .own-sum) ∙ take-all b u (omega (arith, size))
 
   -- ---- the coded block
 
   sys : ℕ → List ℕ
-  sys r = own R u r ++ replicate (places R b - mine r) 2
+  sys r = withFiller (places R b) (own R b u r)
 
   sys-size : (r : ℕ) → r < c → length (sys r) ≡ kb R * z R i
-  unfolding sys
+  unfolding sys withFiller
   sys-size r l =
-      length-append (own R u r) (replicate (places R b - mine r) 2)
-      ∙ omega (arith, own-size r l, length-replicate {A = ℕ} (places R b - mine r) 2, cut .product, own-fits r)
+      let o = length (own R b u r) in
+      length-append (own R b u r) (replicate (places R b - o) 2)
+      ∙ omega (arith, own-size r l, length-replicate {A = ℕ} (places R b - o) 2, cut .product, own-fits r)
 
   abbrev word : ℕ → List ℕ
-  word r = codedBlock R u r
+  word r = codedBlock R b u r
 
   word-is : (r : ℕ) → word r ≡ coded (table R i) (kb R) (m R) (z R i) (sys r)
-  unfolding codedBlock systematic filler sys mine
-  word-is r = rw size
+  unfolding codedBlock systematic sys
+  word-is r = refl
 
-  parity-is : (r : ℕ) → blockHasParity R u r ≡ hasParity (table R i) (kb R) (m R) (z R i) (sys r)
-  unfolding blockHasParity systematic filler sys mine
-  parity-is r = rw size
+  parity-is : (r : ℕ) → blockHasParity R b u r ≡ hasParity (table R i) (kb R) (m R) (z R i) (sys r)
+  unfolding blockHasParity systematic sys
+  parity-is r = refl
 
   has-parity : (r : ℕ) → r < c → hasParity (table R i) (kb R) (m R) (z R i) (sys r) ≡ true
   unfolding someWithoutParity
   has-parity r l =
-      let below : r < blocks R (length u) = subst (λ (n : ℕ). r < blocks R n) (sym size) l in
-      sym (parity-is r) ∙ not-false (blockHasParity R u r) (none-any (blocks R (length u)) (λ k. not (blockHasParity R u k)) parity r below)
+      sym (parity-is r) ∙ not-false (blockHasParity R b u r) (none-any c (λ k. not (blockHasParity R b u k)) parity r l)
 
   -- ---- the radio bits
 
@@ -114,9 +114,9 @@ module _ (R block : List ℕ) (nl qm g : ℕ) (taken : planNumber R (length bloc
   f : ℕ → List ℕ
   f r = matched (word r) e
 
-  block-is : (r : ℕ) → blockSent R u nl qm g r ≡ f r
-  unfolding f blockSent share bitsOf symbolPlaces placesOf blockShare blockCount
-  block-is r = rw size
+  block-is : (r : ℕ) → blockSent R b u nl qm g r ≡ f r
+  unfolding f blockSent share codedBitsOf symbolPlaces symbolPlacesOf blockShare blockCount
+  block-is r = refl
 
   f-size : (r : ℕ) → length (f r) ≡ e
   unfolding f matched
@@ -127,30 +127,28 @@ module _ (R block : List ℕ) (nl qm g : ℕ) (taken : planNumber R (length bloc
   f-joined zero = sym (zero-mul e)
   f-joined (suc n) = length-append (joined n f) (f n) ∙ omega (arith, f-joined n, f-size n, suc-mul n e)
 
-  sent-is : sent R block nl qm g ≡ joined c f ++ replicate (g - c * e) 0
-  unfolding sent padded
+  sent-is : radioBits R b u nl qm g ≡ joined c f ++ replicate (g - c * e) 0
+  unfolding radioBits padded
   sent-is =
-      let front : joined (blocks R (length u)) (blockSent R u nl qm g) ≡ joined c f =
-      ap (λ (n : ℕ). joined (blocks R n) (blockSent R u nl qm g)) size ∙ joined-same (blockSent R u nl qm g) f c (λ r l. block-is r) in
+      let front : joined c (blockSent R b u nl qm g) ≡ joined c f = joined-same (blockSent R b u nl qm g) f c (λ r l. block-is r) in
       ap (λ (l : List ℕ). l ++ replicate (g - length l) 0) front ∙ ap (λ (n : ℕ). joined c f ++ replicate (g - n) 0) (f-joined c)
 
-  block-stretch : (r : ℕ) → r < c → take e (drop (r * e) (sent R block nl qm g)) ≡ f r
+  block-stretch : (r : ℕ) → r < c → take e (drop (r * e) (radioBits R b u nl qm g)) ≡ f r
   block-stretch r l =
       let part = joined-part f c r (replicate (g - c * e) 0) l in
       ap (λ (s : List ℕ). take e (drop (r * e) s)) sent-is
       ∙ ap₂ (λ (x y : ℕ). take x (drop y (joined c f ++ replicate (g - c * e) 0))) (sym (f-size r)) (sym (f-joined r)) ∙ part
 
-  zeros-last : drop (c * e) (sent R block nl qm g) ≡ replicate (g - c * e) 0
+  zeros-last : drop (c * e) (radioBits R b u nl qm g) ≡ replicate (g - c * e) 0
   zeros-last = ap (drop (c * e)) sent-is ∙ drop-at (joined c f) (replicate (g - c * e) 0) (c * e) (f-joined c)
 
-  word-coded : (r : ℕ) → r < c → Word R (length block) (own R u r) (word r)
-  unfolding blockPlaces blockTable mine sys
+  word-coded : (r : ℕ) → r < c → Word R (length block) (own R b u r) (word r)
+  unfolding blockPlaces blockIndex sys withFiller
   word-coded r l =
       record {
         systematic = ap (take (places R b)) (word-is r)
             ∙ ap (λ (n : ℕ). take n (coded (table R i) (kb R) (m R) (z R i) (sys r))) (cut .product)
-            ∙ coded-take (kb R) (m R) (z R i) (sys r) (sys-size r l) (table R i)
-            ∙ ap (λ (n : ℕ). own R u r ++ replicate (places R b - n) 2) (sym (own-size r l));
+            ∙ coded-take (kb R) (m R) (z R i) (sys r) (sys-size r l) (table R i);
         long = ap length (word-is r) ∙ coded-length (kb R) (m R) (z R i) (sys r) (sys-size r l) (table R i)
             ∙ omega (arith, cut .product, add-mul (kb R) (m R) (z R i));
         parity = λ p h.
@@ -160,7 +158,7 @@ module _ (R block : List ℕ) (nl qm g : ℕ) (taken : planNumber R (length bloc
             ∙ coded-checks (kb R) (m R) (z R i) (sys r) (sys-size r l) (table R i) (has-parity r l);
       }
 
-  pub steps : Steps R block nl qm g (sent R block nl qm g)
+  pub steps : Steps R block nl qm g (radioBits R b u nl qm g)
   unfolding blockCount blockBits transport attached mine ownStart f
   steps =
       record {
@@ -173,38 +171,38 @@ module _ (R block : List ℕ) (nl qm g : ℕ) (taken : planNumber R (length bloc
         coded = word-coded;
         stretch = block-stretch;
         rest = zeros-last;
-        long = sent-length R block nl qm g;
-        single = sent-bits R block nl qm g;
+        long = sent-length R b u nl qm g;
+        single = sent-bits R b u nl qm g (transport-bits block);
       }
 
   -- ---- no other bits do
 
   -- a word of the own bits is the coded block
-  word-only : (r : ℕ) (w : List ℕ) → r < c → Word R (length block) (own R u r) w → w ≡ word r
-  unfolding blockPlaces blockTable mine sys
+  word-only : (r : ℕ) (w : List ℕ) → r < c → Word R (length block) (own R b u r) w → w ≡ word r
+  unfolding blockPlaces blockIndex sys withFiller
   word-only r w l h =
       let front : take (kb R * z R i) w ≡ sys r =
-      ap (λ (n : ℕ). take n w) (sym (cut .product)) ∙ h .systematic ∙ ap (λ (n : ℕ). own R u r ++ replicate (places R b - n) 2) (own-size r l) in
+      ap (λ (n : ℕ). take n w) (sym (cut .product)) ∙ h .systematic in
       coded-unique (kb R) (m R) (z R i) (sys r) (sys-size r l) (table R i)
       (table-stairs R (plan-passed R (length block) taken .0) i (cut .size)) w
       (h .long ∙ omega (arith, cut .product, add-mul (kb R) (m R) (z R i))) front (λ p k. h .parity p (omega (arith, cut .product))) (h .checked) .1
       ∙ sym (word-is r)
 
-  shares : (n : ℕ) → sumTo n (λ (r : ℕ). e) ≡ n * e
-  unfolding sumTo
+  shares : (n : ℕ) → sumBelow n (λ (r : ℕ). e) ≡ n * e
+  unfolding sumBelow
   shares zero = sym (zero-mul e)
   shares (suc n) = omega (arith, shares n, suc-mul n e)
 
-  pub steps-only : (bits : List ℕ) → Steps R block nl qm g bits → bits ≡ sent R block nl qm g
+  pub steps-only : (bits : List ℕ) → Steps R block nl qm g bits → bits ≡ radioBits R b u nl qm g
   unfolding blockCount transport attached f
   steps-only bits s =
       let own-word : (r : ℕ) → r < c → s .word r ≡ word r =
-      λ r l. word-only r (s .word r) l (subst (λ (v : List ℕ). Word R (length block) (own R v r) (s .word r)) (s .appended) (s .coded r l)) in
-      let each : (r : ℕ) → r < c → take e (drop (sumTo r (λ (k : ℕ). e)) bits) ≡ f r =
+      λ r l. word-only r (s .word r) l (subst (λ (v : List ℕ). Word R (length block) (own R b v r) (s .word r)) (s .appended) (s .coded r l)) in
+      let each : (r : ℕ) → r < c → take e (drop (sumBelow r (λ (k : ℕ). e)) bits) ≡ f r =
       λ r l. ap (λ (n : ℕ). take e (drop n bits)) (shares r) ∙ s .stretch r l ∙ ap (λ (w : List ℕ). matched w e) (own-word r l) in
       sym (take-append-drop (c * e) bits)
       ∙ ap₂ (λ (x y : List ℕ). x ++ y)
       (ap (λ (n : ℕ). take n bits) (sym (shares c)) ∙ sym (joined-cut (λ (r : ℕ). e) bits c)
-      ∙ joined-same (λ r. take e (drop (sumTo r (λ (k : ℕ). e)) bits)) f c each)
+      ∙ joined-same (λ r. take e (drop (sumBelow r (λ (k : ℕ). e)) bits)) f c each)
       (s .rest)
       ∙ sym sent-is

@@ -1,4 +1,4 @@
 pub mod Numbers
 pub mod Outputs
 pub mod Steps
-pub mod Hosted
+pub mod Worked

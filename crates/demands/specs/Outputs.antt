@@ -7,7 +7,7 @@ use lib.ListN.{length, take, drop}
 use Rattle.bits.specs.declared.number.Written.{Written}
 
 -- "A refused call changes no byte lent to it; an accepted one writes only the named stretch": "Octets past that count stay as they were"
-pub record Kept (out : List ℕ) (r : Written) (out' : List ℕ) : Type 0 where
+pub record Confined (out : List ℕ) (r : Written) (out' : List ℕ) : Type 0 where
   pub refused : (r .number ≡ 0 → ⊥) → (r .count ≡ 0) × (out' ≡ out)
   pub within : r .count ≤ length out
   pub past : drop (r .count) out' ≡ drop (r .count) out

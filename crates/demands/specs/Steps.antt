@@ -1,6 +1,6 @@
 -- What the second demand says of sending: the six steps of document 01, "From block to radio bits", as facts of the bits that a transport block is
--- sent as. R is the profile's record. No parity bits are searched for here, and no stretch is joined; cutting, the matrix and rate matching are the
--- definitions that sending itself is made of.
+-- sent as. R is the profile's record. No parity bits are searched for here, and no stretch is joined; the checksum, cutting, the matrix and rate
+-- matching are the definitions that sending itself is made of.
 use mathlib.Core.Path.{_≡_}
 use mathlib.Core.Bool.{true}
 use mathlib.Core.List.{List, _++_}
@@ -9,32 +9,32 @@ use lib.ListN.{length, getD, take, drop, replicate}
 use Rattle.bits.specs.Bits.{AreBits, digits, unpacked}
 use Rattle.checksum.specs.Crc.{checksum, gen24A}
 use Rattle.profile.specs.Record.{kb, m, z, table}
-use Rattle.profile.specs.Plan.{blockBits, blocks, ownBits, whichSize, places}
+use Rattle.profile.specs.Plan.{blockBits, blocks, ownBits, sizeIndex, places}
 use Rattle.parity.specs.Matrix.{checks}
 use Rattle.coding.specs.Cutting.{own}
 use Rattle.coding.specs.Joining.{joined}
 use Rattle.coding.specs.Matching.{matched}
 
--- C and K of a block of so many octets, which of the record's sizes is checksWith for it, and "E = N_L·Q_m·floor(G'/C)"
+-- C and K of a block of so many octets, which of the record's sizes is chosen for it, and "E = N_L·Q_m·floor(G'/C)"
 unfoldable pub blockCount : List ℕ → ℕ → ℕ
 blockCount R octets = blocks R (blockBits octets)
 
 unfoldable pub blockPlaces : List ℕ → ℕ → ℕ
 blockPlaces R octets = places R (blockBits octets)
 
-unfoldable pub blockTable : List ℕ → ℕ → ℕ
-blockTable R octets = whichSize R (blockBits octets)
+unfoldable pub blockIndex : List ℕ → ℕ → ℕ
+blockIndex R octets = sizeIndex R (blockBits octets)
 
 unfoldable pub blockShare : List ℕ → ℕ → ℕ → ℕ → ℕ → ℕ
 blockShare R octets nl qm g = nl * qm * (g / (nl * qm) / blockCount R octets)
 
--- 3 and 4. w is the coded block of these own bits: "K systematic places and then m·z parity bits. It must check with filler read as 0. Filler places
+-- 3 and 4. w is the coded block of these own bits: "Places past a block's own bits, at its end, are filler", "K systematic places and then m·z parity bits. It must check with filler read as 0. Filler places
 -- stay marked."
 pub record Word (R : List ℕ) (octets : ℕ) (mine w : List ℕ) : Type 0 where
   pub systematic : take (blockPlaces R octets) w ≡ mine ++ replicate (blockPlaces R octets - length mine) 2
-  pub long : length w ≡ blockPlaces R octets + m R * z R (blockTable R octets)
+  pub long : length w ≡ blockPlaces R octets + m R * z R (blockIndex R octets)
   pub parity : (p : ℕ) → blockPlaces R octets ≤ p → getD w p 0 < 2
-  pub checked : checks (table R (blockTable R octets)) (m R) (kb R + m R) (z R (blockTable R octets)) w ≡ true
+  pub checked : checks (table R (blockIndex R octets)) (m R) (kb R + m R) (z R (blockIndex R octets)) w ≡ true
 
 pub record Steps (R block : List ℕ) (nl qm g : ℕ) (bits : List ℕ) : Type 0 where
   -- 1. "Append the 24 checksum bits of gCRC24A; B = A + 24"
@@ -43,11 +43,11 @@ pub record Steps (R block : List ℕ) (nl qm g : ℕ) (bits : List ℕ) : Type 0
   pub transported : length transport ≡ 8 * length block + 24
   -- 2. "The first B mod C blocks carry ceil(B/C) bits in order, the others floor(B/C)", and together they carry all
   pub carried : (r : ℕ) → r < blockCount R (length block)
-      → length (own R transport r) ≡ ownBits (8 * length block + 24) (blockCount R (length block)) r
-  pub together : joined (blockCount R (length block)) (own R transport) ≡ transport
+      → length (own R (blockBits (length block)) transport r) ≡ ownBits (blockBits (length block)) (blockCount R (length block)) r
+  pub together : joined (blockCount R (length block)) (own R (blockBits (length block)) transport) ≡ transport
   -- 3 and 4, of each block
   pub word : ℕ → List ℕ
-  pub coded : (r : ℕ) → r < blockCount R (length block) → Word R (length block) (own R transport r) (word r)
+  pub coded : (r : ℕ) → r < blockCount R (length block) → Word R (length block) (own R (blockBits (length block)) transport r) (word r)
   -- 5. "Every block is given E .. bits"; 6. they "are its coded places in order from the first, filler skipped, starting again at the first after the
   -- last", and go into its own stretch
   pub stretch : (r : ℕ) → r < blockCount R (length block)

@@ -192,7 +192,7 @@ fn complaint(word: &[u8], name: &[u8], most: usize, line: &mut [u8]) -> usize {
 
 // What a command asks a hosted call: the words TENANT and PROFILE, and of a block its octets, N_L,
 // Q_m and G.
-pub struct Asked {
+pub struct Parameters {
     pub tenant: u16,
     pub profile: u16,
     pub octets: usize,
@@ -204,10 +204,10 @@ pub struct Asked {
 }
 
 // The words PRIVATE PUBLIC TENANT PROFILE.
-pub fn for_lookup(words: Words) -> Asked {
+pub fn for_lookup(words: Words) -> Parameters {
     let tenant = read_number(words, 2, b"TENANT", 65535);
     let profile = read_number(words, 3, b"PROFILE", 65535);
-    Asked {
+    Parameters {
         tenant: values::short_of(tenant.value),
         profile: values::short_of(profile.value),
         octets: 0,
@@ -219,7 +219,7 @@ pub fn for_lookup(words: Words) -> Asked {
 }
 
 // Behind them LAYERS ORDER BITS. The octets are known once the block is read.
-pub fn for_send(words: Words) -> Asked {
+pub fn for_send(words: Words) -> Parameters {
     let mut asked = for_lookup(words);
     let layers = read_number(words, 4, b"LAYERS", usize::MAX);
     let order = read_number(words, 5, b"ORDER", usize::MAX);
@@ -236,7 +236,7 @@ pub fn for_send(words: Words) -> Asked {
 const MOST_OCTETS: usize = usize::MAX / 8;
 
 // Behind them OCTETS LAYERS ORDER. G is known once the bits are read.
-pub fn for_receive(words: Words) -> Asked {
+pub fn for_receive(words: Words) -> Parameters {
     let mut asked = for_lookup(words);
     let octets = read_number(words, 4, b"OCTETS", MOST_OCTETS);
     let layers = read_number(words, 5, b"LAYERS", usize::MAX);
@@ -249,11 +249,11 @@ pub fn for_receive(words: Words) -> Asked {
 }
 
 // RECORD OCTETS [LAYERS ORDER]; one layer and two bits to a symbol where they are not given.
-pub fn for_plan(words: Words) -> Asked {
+pub fn for_plan(words: Words) -> Parameters {
     let octets = read_number(words, 1, b"OCTETS", usize::MAX);
     let layers = read_or(words, 2, b"LAYERS", 1);
     let order = read_or(words, 3, b"ORDER", 2);
-    Asked {
+    Parameters {
         tenant: 0,
         profile: 0,
         octets: octets.value,

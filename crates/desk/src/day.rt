@@ -7,7 +7,7 @@ use crate::status;
 use advice::Least;
 use bits::number::DONE;
 use bits::number::Written;
-use shelf::find::Found;
+use shelf::inner::Found;
 use text::octets;
 ghost use Prim.Native.Nat.{_≤_};
 ghost use lib.ListN.{length};
@@ -88,7 +88,7 @@ fn look<'a>(
     requires { ⌜ at ≤ length (now page) ⌝ }
     ensures { λ r. ⌜ r ≤ length (now (page .entry)) ⌝ }
 {
-    let found = shelf::find::look(private, public, tenant, profile);
+    let found = shelf::inner::look(private, public, tenant, profile);
     let a = page::put(step, page, at);
     let b = page::field(b"tenant ", tenant as usize, page, a);
     let c = page::field(b" asks for profile ", profile as usize, page, b);

@@ -205,6 +205,7 @@ fn detail_of_replay() -> bool {
 Reads requests, one to a line, and writes an answer to each. Requests, and what is answered behind the number:
 
   crc WIDTH BITS                     the checksum of the bits
+  crcoct WIDTH PACKED                the checksum of packed octets
   profile RECORD                     nothing: the number says whether the record is a profile
   plan RECORD OCTETS                 how a block of so many octets is cut: B, C, K and z
   encode RECORD Z PLACES OUTLEN      the places of a code block, with its parity bits

@@ -1,5 +1,5 @@
 // The least G with which every code block has room, in words.
-use crate::argv::Asked;
+use crate::argv::Parameters;
 use crate::page;
 use advice::Least;
 use bits::number::DONE;
@@ -7,7 +7,7 @@ ghost use Prim.Native.Nat.{_≤_};
 ghost use lib.ListN.{length};
 
 // Puts the least G, and how many blocks share it, behind the text; `room` is the word for what it has, where that was not said before.
-pub fn put(record: &[u8], asked: Asked, room: &[u8], page: &mut [u8], at: usize) -> usize
+pub fn put(record: &[u8], asked: Parameters, room: &[u8], page: &mut [u8], at: usize) -> usize
     requires { ⌜ at ≤ length (now page) ⌝ }
     ensures { λ r. ⌜ r ≤ length (now (page .entry)) ⌝ }
 {

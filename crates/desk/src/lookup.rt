@@ -1,7 +1,7 @@
 // The command `lookup`: the record that a tenant is given.
 use crate::argv;
-use crate::argv::Asked;
 use crate::argv::Command;
+use crate::argv::Parameters;
 use crate::argv::Words;
 use crate::files;
 use crate::help;
@@ -29,7 +29,7 @@ pub fn run(words: Words) -> i32 {
 }
 
 // A shelf has at most 65,535 octets, so of one that is too long the room has one more than is accepted.
-fn read(words: Words, asked: Asked, private: &mut [u8], public: &mut [u8]) -> i32 {
+fn read(words: Words, asked: Parameters, private: &mut [u8], public: &mut [u8]) -> i32 {
     let own = files::named(words, 0, private);
     if own.failed {
         return status::FAILED;
@@ -43,7 +43,7 @@ fn read(words: Words, asked: Asked, private: &mut [u8], public: &mut [u8]) -> i3
     answer(asked, &private[0..n], &public[0..m])
 }
 
-fn answer<'a>(asked: Asked, private: &'a [u8], public: &'a [u8]) -> i32 {
+fn answer<'a>(asked: Parameters, private: &'a [u8], public: &'a [u8]) -> i32 {
     let number = shelf::lookup_number(private, public, asked.tenant, asked.profile);
     let record = shelf::lookup(private, public, asked.tenant, asked.profile);
     if number != DONE {

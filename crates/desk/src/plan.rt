@@ -1,7 +1,7 @@
 // The command `plan`: how a block is cut, as a table.
 use crate::argv;
-use crate::argv::Asked;
 use crate::argv::Command;
+use crate::argv::Parameters;
 use crate::argv::Words;
 use crate::files;
 use crate::help;
@@ -17,7 +17,7 @@ ghost use Prim.Native.Nat.{_≤_};
 ghost use mathlib.Core.Path.{_≡_};
 ghost use lib.ListN.{length};
 ghost use Rattle.profile.specs.Plan.{blockBits, blocks, ownBits, filler};
-ghost use Rattle.profile.specs.Promises.{Planned};
+ghost use Rattle.profile.specs.Promises.{planned};
 ghost use Rattle.coding.specs.Blocks.{sendable};
 
 pub fn run(words: Words) -> i32 {
@@ -40,7 +40,7 @@ pub fn run(words: Words) -> i32 {
     read(words, asked, &mut record)
 }
 
-fn read(words: Words, asked: Asked, store: &mut [u8]) -> i32 {
+fn read(words: Words, asked: Parameters, store: &mut [u8]) -> i32 {
     let file = files::named(words, 0, store);
     if file.failed {
         return status::FAILED;
@@ -50,7 +50,7 @@ fn read(words: Words, asked: Asked, store: &mut [u8]) -> i32 {
 }
 
 // The numbers of the least G go first: 8 stands before 9. Where no G has room, the cutting is shown all the same.
-fn answer(record: &[u8], asked: Asked) -> i32 {
+fn answer(record: &[u8], asked: Parameters) -> i32 {
     let number = advice::least_bits(record, asked.octets, asked.nl, asked.qm).number;
     if is_refused(number) {
         return refusal::write(number, record, asked);
@@ -71,8 +71,8 @@ fn is_refused(number: u32) -> bool {
     number != NO_ROOM
 }
 
-fn put(profile: &[u8], plan: Plan, asked: Asked, page: &mut [u8]) -> usize
-    requires { ⌜ (plan .number ≡ 0) × Planned (now profile) (asked .octets) plan ⌝ }
+fn put(profile: &[u8], plan: Plan, asked: Parameters, page: &mut [u8]) -> usize
+    requires { ⌜ (plan .number ≡ 0) × (plan ≡ planned (now profile) (asked .octets)) ⌝ }
     ensures { λ r. ⌜ r ≤ length (now (page .entry)) ⌝ }
 {
     let a = head(plan, page);
@@ -91,7 +91,7 @@ fn head(plan: Plan, page: &mut [u8]) -> usize
 }
 
 fn rows(profile: &[u8], plan: Plan, octets: usize, page: &mut [u8], from: usize) -> usize
-    requires { ⌜ (plan .number ≡ 0) × Planned (now profile) octets plan × (from ≤ length (now page)) ⌝ }
+    requires { ⌜ (plan .number ≡ 0) × (plan ≡ planned (now profile) octets) × (from ≤ length (now page)) ⌝ }
     ensures { λ r. ⌜ r ≤ length (now (page .entry)) ⌝ }
 {
     let mut at = from;
@@ -114,7 +114,7 @@ pub struct Part {
 
 // Block r's part, counted from 0.
 fn part_of(profile: &[u8], plan: Plan, octets: usize, r: usize) -> Part
-    requires { ⌜ (plan .number ≡ 0) × Planned (now profile) octets plan ⌝ }
+    requires { ⌜ (plan .number ≡ 0) × (plan ≡ planned (now profile) octets) ⌝ }
     ensures { λ p. ⌜ (p .own ≡ ownBits (blockBits octets) (blocks (now (profile .entry)) (blockBits octets)) r) × (p .filler ≡ filler (now (profile .entry)) (blockBits octets) r) × (p .sendable ≡ sendable (now (profile .entry)) (blockBits octets) r) ⌝ }
 {
     let kb = profile::inner::kb(profile);
@@ -140,7 +140,7 @@ fn row(number: usize, part: Part, page: &mut [u8], at: usize) -> usize
     page::put(b"\n", page, d)
 }
 
-fn foot(profile: &[u8], asked: Asked, page: &mut [u8], at: usize) -> usize
+fn foot(profile: &[u8], asked: Parameters, page: &mut [u8], at: usize) -> usize
     requires { ⌜ at ≤ length (now page) ⌝ }
     ensures { λ r. ⌜ r ≤ length (now (page .entry)) ⌝ }
 {

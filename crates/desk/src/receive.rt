@@ -1,7 +1,7 @@
 // The command `receive`: the block that was sent as a tenant's bits.
 use crate::argv;
-use crate::argv::Asked;
 use crate::argv::Command;
+use crate::argv::Parameters;
 use crate::argv::Words;
 use crate::files;
 use crate::help;
@@ -35,7 +35,7 @@ pub fn run(words: Words) -> i32 {
 
 fn read(
     words: Words,
-    asked: Asked,
+    asked: Parameters,
     private: &mut [u8],
     public: &mut [u8],
     bits: &mut [u8],
@@ -60,7 +60,7 @@ fn read(
 }
 
 fn answer<'a>(
-    asked: Asked,
+    asked: Parameters,
     private: &'a [u8],
     public: &'a [u8],
     bits: &[u8],
@@ -84,7 +84,7 @@ fn answer<'a>(
     files::write(octets::first(block, received.count))
 }
 
-fn with_bits(mut asked: Asked, bits: usize) -> Asked {
+fn with_bits(mut asked: Parameters, bits: usize) -> Parameters {
     let g = CodedBits(bits);
     asked.g = g;
     asked

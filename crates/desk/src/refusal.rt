@@ -1,17 +1,18 @@
 // A refusal: its one line on standard error, and the exit status.
-use crate::argv::Asked;
+use crate::argv::Parameters;
 use crate::least;
 use crate::meanings;
 use crate::page;
 use crate::status;
 use bits::count::SymbolPlaces;
+use bits::count::inner::coded_bits;
 use libc::STDERR_FILENO;
 use text::octets;
 ghost use Prim.Native.Nat.{_≤_};
 ghost use lib.ListN.{length};
 
 // Says the number, what it means and what would be accepted. The exit status is the number.
-pub fn write(number: u32, record: &[u8], asked: Asked) -> i32 {
+pub fn write(number: u32, record: &[u8], asked: Parameters) -> i32 {
     let mut line = io::buffer();
     let n = put(number, record, asked, &mut line);
     io::write_all(STDERR_FILENO, octets::first(&line, n));
@@ -26,7 +27,7 @@ fn exit_status(number: u32) -> i32 {
 }
 
 // Puts the line, which ends with a line end.
-pub fn put(number: u32, record: &[u8], asked: Asked, line: &mut [u8]) -> usize
+pub fn put(number: u32, record: &[u8], asked: Parameters, line: &mut [u8]) -> usize
     ensures { λ r. ⌜ r ≤ length (now (line .entry)) ⌝ }
 {
     let a = page::put(b"refused ", line, 0);
@@ -38,7 +39,7 @@ pub fn put(number: u32, record: &[u8], asked: Asked, line: &mut [u8]) -> usize
 }
 
 // What would be accepted, where that can be said.
-fn hint(number: u32, record: &[u8], asked: Asked, line: &mut [u8], at: usize) -> usize
+fn hint(number: u32, record: &[u8], asked: Parameters, line: &mut [u8], at: usize) -> usize
     requires { ⌜ at ≤ length (now line) ⌝ }
     ensures { λ r. ⌜ r ≤ length (now (line .entry)) ⌝ }
 {
@@ -53,7 +54,7 @@ fn hint(number: u32, record: &[u8], asked: Asked, line: &mut [u8], at: usize) ->
     }
 }
 
-fn parameters(asked: Asked, line: &mut [u8], at: usize) -> usize
+fn parameters(asked: Parameters, line: &mut [u8], at: usize) -> usize
     requires { ⌜ at ≤ length (now line) ⌝ }
     ensures { λ r. ⌜ r ≤ length (now (line .entry)) ⌝ }
 {
@@ -77,14 +78,14 @@ fn product(nl: usize, qm: usize, line: &mut [u8], at: usize) -> usize
     if qm > 6 {
         return at;
     }
-    let each = SymbolPlaces(1).bits(nl, qm);
+    let each = coded_bits(SymbolPlaces(1), nl, qm);
     let a = page::put(b" (here ", line, at);
     let b = page::decimal(each.0, line, a);
     page::put(b")", line, b)
 }
 
 // The least G with which every code block has room.
-fn least_bits(record: &[u8], asked: Asked, line: &mut [u8], at: usize) -> usize
+fn least_bits(record: &[u8], asked: Parameters, line: &mut [u8], at: usize) -> usize
     requires { ⌜ at ≤ length (now line) ⌝ }
     ensures { λ r. ⌜ r ≤ length (now (line .entry)) ⌝ }
 {

@@ -1,7 +1,7 @@
 // The command `send`: the bits that are sent of a tenant's block.
 use crate::argv;
-use crate::argv::Asked;
 use crate::argv::Command;
+use crate::argv::Parameters;
 use crate::argv::Words;
 use crate::files;
 use crate::help;
@@ -34,7 +34,7 @@ pub fn run(words: Words) -> i32 {
 
 fn read(
     words: Words,
-    asked: Asked,
+    asked: Parameters,
     private: &mut [u8],
     public: &mut [u8],
     block: &mut [u8],
@@ -67,7 +67,7 @@ fn read(
 
 fn answer<'a>(
     text: bool,
-    asked: Asked,
+    asked: Parameters,
     private: &'a [u8],
     public: &'a [u8],
     block: &[u8],
@@ -95,7 +95,7 @@ fn answer<'a>(
     files::write(octets::first(bits, sent.count))
 }
 
-fn with_octets(mut asked: Asked, octets: usize) -> Asked {
+fn with_octets(mut asked: Parameters, octets: usize) -> Parameters {
     asked.octets = octets;
     asked
 }

@@ -1,21 +1,15 @@
--- The promises agree: two answers, and two outputs, that meet one for the same input are equal. Assumes nothing.
+-- The promises agree: two answers, and two outputs, that meet one for the same input are equal.
 use mathlib.Core.Path.{_≡_, sym, ap₂, _∙_}
 use mathlib.Core.Bool.{Bool}
 use mathlib.Core.List.{List}
 use Prim.Native.Nat.{ℕ}
 use Rattle.bits.specs.declared.number.Written.{Written}
+use Rattle.bits.proofs.Written.{same-written}
 use Rattle.parity.specs.declared.Verdict.{Verdict}
 use Rattle.parity.specs.Promises.{BlockCoded, WordChecked}
 
-written : ℕ → ℕ → Written
-written n k = record { number = n; count = k }
-
 verdict : ℕ → Bool → Verdict
 verdict n b = record { number = n; checks = b }
-
-same-written : (a b : Written) → a .number ≡ b .number → a .count ≡ b .count → a ≡ b
-unfolding written
-same-written a b p q = ap₂ written p q
 
 same-verdict : (a b : Verdict) → a .number ≡ b .number → a .checks ≡ b .checks → a ≡ b
 unfolding verdict

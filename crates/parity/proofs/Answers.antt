@@ -1,45 +1,44 @@
--- What the public calls answer, by their tests. Assumes nothing.
+-- What the public calls answer, by their tests.
 use mathlib.Core.Path.{_≡_, refl, sym, ap, ap₂, _∙_}
-use mathlib.Core.Bool.{Bool, true, false, cond, not, _||_}
+use mathlib.Core.Bool.{Bool, true, false, not, _||_}
 use mathlib.Core.List.{List, [], _∷_, _++_}
 use Prim.Native.Nat.{ℕ, _+_, _*_, _≤_, _<_}
 use native.Mathlib.Omega.{arith}
 use lib.Dec.{eqb, ltb, lit<}
 use lib.ListN.{length, drop}
-use borrow.Author.Tests.{eqb-true, eqb-false, eq-eqb, ne-eqb, lt-ltb, le-ltb, ltb-false, not-false}
+use borrow.Author.Tests.{eqb-true, lt-ltb, le-ltb, ltb-false, not-false}
 use Rattle.bits.specs.Bits.{someOver}
 use Rattle.bits.specs.Numbers.{answered}
-use Rattle.bits.specs.Ranges.{anyTo, firstTo}
-use Rattle.bits.proofs.Answers.{passed, when-done, when-refused}
-use Rattle.bits.proofs.Ranges.{first-some, first-none}
-use Rattle.profile.specs.Record.{kb, m, t, z, wellFormed}
-use Rattle.profile.specs.Staircase.{staircases}
-use Rattle.profile.specs.Promises.{judged}
+use Rattle.bits.specs.Ranges.{anyBelow, firstBelow}
+use Rattle.bits.proofs.Answers.{applies, passes, passed, first-part, Refusals, last-part, none-left, when-done, when-refused}
+use Rattle.bits.proofs.Ranges.{equal-or, first-some, first-none}
+use Rattle.profile.specs.Record.{kb, m, t, z}
+use Rattle.profile.specs.Promises.{judgeConditions, judged}
 use Rattle.parity.specs.Matrix.{checks}
 use Rattle.parity.specs.Coded.{hasParity, coded}
-use Rattle.parity.specs.Promises.{hasSize, tableFor, unfit, codeNumber, BlockCoded, checkNumber, WordChecked}
+use Rattle.parity.specs.Promises.{hasSize, tableFor, unfit, blockConditions, codeNumber, BlockCoded, checkNumber, WordChecked}
 use Rattle.parity.specs.steps.Gate.{blockNumber}
 
 -- ---- the sizes of a record
 
 module _ (R : List ℕ) (z' : ℕ) where
   abbrev at : ℕ
-  at = firstTo (t R) (λ i. eqb (z R i) z')
+  at = firstBelow (t R) (λ i. eqb (z R i) z')
 
   -- the search for z' ends at t where the record has no such size, and before it where it has
   pub size-none : at ≡ t R → hasSize R z' ≡ false
   unfolding hasSize
-  size-none e = by-value (anyTo (t R) (λ i. eqb (z R i) z')) refl
+  size-none e = by-value (anyBelow (t R) (λ i. eqb (z R i) z')) refl
     where
-      by-value : (b : Bool) → anyTo (t R) (λ i. eqb (z R i) z') ≡ b → b ≡ false
+      by-value : (b : Bool) → anyBelow (t R) (λ i. eqb (z R i) z') ≡ b → b ≡ false
       by-value false q = refl
       by-value true q = absurd (let f = first-some (t R) (λ i. eqb (z R i) z') q in omega (arith, f .below))
 
   pub size-some : (at ≡ t R → ⊥) → hasSize R z' ≡ true
   unfolding hasSize
-  size-some n = by-value (anyTo (t R) (λ i. eqb (z R i) z')) refl
+  size-some n = by-value (anyBelow (t R) (λ i. eqb (z R i) z')) refl
     where
-      by-value : (b : Bool) → anyTo (t R) (λ i. eqb (z R i) z') ≡ b → b ≡ true
+      by-value : (b : Bool) → anyBelow (t R) (λ i. eqb (z R i) z') ≡ b → b ≡ true
       by-value true q = refl
       by-value false q = absurd (n (first-none (t R) (λ i. eqb (z R i) z') q))
 
@@ -61,30 +60,18 @@ module _ (R : List ℕ) (z' : ℕ) where
 
 -- ---- 5 and 6 as the profile is judged, then the others
 
-judged-then : (R : List ℕ) (rest : List (ℕ × Bool))
-    → answered ((5, not (wellFormed R)) ∷ (6, not (staircases R)) ∷ rest) ≡ cond (eqb (judged R) 0) (answered rest) (judged R)
-unfolding judged answered
-judged-then R rest = by-tests (not (wellFormed R)) (not (staircases R))
-  where
-    by-tests : (a b : Bool)
-        → answered ((5, a) ∷ (6, b) ∷ rest) ≡ cond (eqb (answered ((5, a) ∷ (6, b) ∷ [])) 0) (answered rest) (answered ((5, a) ∷ (6, b) ∷ []))
-    by-tests true b = refl
-    by-tests false true = refl
-    by-tests false false = refl
-
 module _ (R : List ℕ) (rest : List (ℕ × Bool)) where
-  refused-first : (judged R ≡ 0 → ⊥) → answered ((5, not (wellFormed R)) ∷ (6, not (staircases R)) ∷ rest) ≡ judged R
-  refused-first n = judged-then R rest ∙ rw (ne-eqb (judged R) 0 n)
+  refused-first : (judged R ≡ 0 → ⊥) → answered (judgeConditions R ++ rest) ≡ judged R
+  unfolding judged
+  refused-first n = first-part (judgeConditions R) rest n
 
-  judged-first : judged R ≡ 0 → answered ((5, not (wellFormed R)) ∷ (6, not (staircases R)) ∷ rest) ≡ answered rest
-  judged-first e = judged-then R rest ∙ rw (eq-eqb (judged R) 0 e)
+  judged-first : judged R ≡ 0 → answered (judgeConditions R ++ rest) ≡ answered rest
+  unfolding judged Refusals
+  judged-first e = last-part (judgeConditions R) rest tt e
 
-  done-first : answered ((5, not (wellFormed R)) ∷ (6, not (staircases R)) ∷ rest) ≡ 0 → (judged R ≡ 0) × (answered rest ≡ 0)
-  done-first e = by-value (eqb (judged R) 0) refl (sym (judged-then R rest) ∙ e)
-    where
-      by-value : (b : Bool) → eqb (judged R) 0 ≡ b → cond b (answered rest) (judged R) ≡ 0 → (judged R ≡ 0) × (answered rest ≡ 0)
-      by-value true q f = (eqb-true (judged R) 0 q, f)
-      by-value false q f = absurd (eqb-false (judged R) 0 q f)
+  done-first : answered (judgeConditions R ++ rest) ≡ 0 → (judged R ≡ 0) × (answered rest ≡ 0)
+  done-first e =
+      equal-or (judged R) 0 (λ q. (q, sym (judged-first q) ∙ e)) (λ n. absurd (n (sym (refused-first n) ∙ e)))
 
 -- ---- the numbers before coding
 
@@ -102,8 +89,8 @@ module _ (R : List ℕ) (z' : ℕ) (places : List ℕ) (room : ℕ) where
       fit-is : {b : Bool} → u ≡ b → unfit R z' (kb R) places ≡ b
       fit-is e = ap (λ (x : ℕ). unfit R z' x places) (sym kb-is) ∙ sym fit ∙ e
 
-      wide-is : (k + n) * z' ≡ (kb R + m R) * z'
-      wide-is = ap₂ (λ (x y : ℕ). (x + y) * z') kb-is m-is
+      columns-is : (k + n) * z' ≡ (kb R + m R) * z'
+      columns-is = ap₂ (λ (x y : ℕ). (x + y) * z') kb-is m-is
 
       pub block-8 : u ≡ true → 8 ≡ blockNumber R z' places room
       unfolding blockNumber answered
@@ -112,20 +99,20 @@ module _ (R : List ℕ) (z' : ℕ) (places : List ℕ) (room : ℕ) where
       pub block-11 : u ≡ false → room < (k + n) * z' → 11 ≡ blockNumber R z' places room
       unfolding blockNumber answered
       block-11 e l =
-          sym (judged-first R others (sym found ∙ done) ∙ rw (fit-is e, lt-ltb room ((kb R + m R) * z') (omega (arith, wide-is))))
+          sym (judged-first R others (sym found ∙ done) ∙ rw (fit-is e, lt-ltb room ((kb R + m R) * z') (omega (arith, columns-is))))
 
       module _ (e : u ≡ false) (l : (k + n) * z' ≤ room) (o : Bool) (over : o ≡ someOver 2 places) where
         pub block-12 : o ≡ true → 12 ≡ blockNumber R z' places room
         unfolding blockNumber answered
         block-12 q =
             sym (judged-first R others (sym found ∙ done)
-            ∙ rw (fit-is e, le-ltb room ((kb R + m R) * z') (omega (arith, wide-is)), sym over ∙ q))
+            ∙ rw (fit-is e, le-ltb room ((kb R + m R) * z') (omega (arith, columns-is)), sym over ∙ q))
 
         pub block-0 : o ≡ false → 0 ≡ blockNumber R z' places room
         unfolding blockNumber answered
         block-0 q =
             sym (judged-first R others (sym found ∙ done)
-            ∙ rw (fit-is e, le-ltb room ((kb R + m R) * z') (omega (arith, wide-is)), sym over ∙ q))
+            ∙ rw (fit-is e, le-ltb room ((kb R + m R) * z') (omega (arith, columns-is)), sym over ∙ q))
 
   pub record Taken : Type 0 where
     pub judged : judged R ≡ 0
@@ -143,24 +130,23 @@ module _ (R : List ℕ) (z' : ℕ) (places : List ℕ) (room : ℕ) where
       record { judged = first .0; size = fit .0; long = fit .1; enough = ltb-false room ((kb R + m R) * z') (eleven .0) }
 
   -- and 15 behind them
-  code-number : codeNumber R z' places room
-      ≡ cond (eqb (blockNumber R z' places room) 0) (cond (hasParity (tableFor R z') (kb R) (m R) z' places) 0 15) (blockNumber R z' places room)
-  unfolding codeNumber blockNumber answered
-  code-number =
-      by-tests (not (wellFormed R)) (not (staircases R)) (unfit R z' (kb R) places) (ltb room ((kb R + m R) * z')) (someOver 2 places)
-      (hasParity (tableFor R z') (kb R) (m R) z' places)
-    where
-      by-tests : (a b c d e f : Bool)
-          → answered ((5, a) ∷ (6, b) ∷ (8, c) ∷ (11, d) ∷ (12, e) ∷ (15, not f) ∷ [])
-          ≡ cond (eqb (answered ((5, a) ∷ (6, b) ∷ (8, c) ∷ (11, d) ∷ (12, e) ∷ [])) 0) (cond f 0 15)
-          (answered ((5, a) ∷ (6, b) ∷ (8, c) ∷ (11, d) ∷ (12, e) ∷ []))
-      by-tests true b c d e f = refl
-      by-tests false true c d e f = refl
-      by-tests false false true d e f = refl
-      by-tests false false false true e f = refl
-      by-tests false false false false true f = refl
-      by-tests false false false false false true = refl
-      by-tests false false false false false false = refl
+  abbrev fifteen : List (ℕ × Bool)
+  fifteen = (15, not (hasParity (tableFor R z') (kb R) (m R) z' places)) ∷ []
+
+  number-refused : (blockNumber R z' places room ≡ 0 → ⊥) → codeNumber R z' places room ≡ blockNumber R z' places room
+  unfolding codeNumber blockNumber
+  number-refused n = first-part (blockConditions R z' places room) fifteen n
+
+  module _ (e : blockNumber R z' places room ≡ 0) where
+    number-last : codeNumber R z' places room ≡ answered fifteen
+    unfolding codeNumber blockNumber Refusals
+    number-last = last-part (blockConditions R z' places room) fifteen tt e
+
+    number-done : hasParity (tableFor R z') (kb R) (m R) z' places ≡ true → codeNumber R z' places room ≡ 0
+    number-done h = number-last ∙ passes 15 [] (ap not h) ∙ none-left
+
+    number-none : hasParity (tableFor R z') (kb R) (m R) z' places ≡ false → codeNumber R z' places room ≡ 15
+    number-none h = number-last ∙ applies 15 [] (ap not h)
 
 module _ (R : List ℕ) (z' : ℕ) (places out : List ℕ) where
   abbrev block : ℕ
@@ -176,17 +162,17 @@ module _ (R : List ℕ) (z' : ℕ) (places out : List ℕ) where
 
   pub coded-refused : (n : ℕ) → n ≡ block → (n ≡ 0 → ⊥) → BlockCoded R z' places out (record { number = n; count = 0 }) out
   coded-refused n e h =
-      refused-with n (code-number R z' places (length out) ∙ rw (ne-eqb block 0 (λ q. h (e ∙ q))) (sym e)) h
+      refused-with n (number-refused R z' places (length out) (λ q. h (e ∙ q)) ∙ sym e) h
 
   module _ (e : block ≡ 0) where
     pub coded-none : hasParity (tableFor R z') (kb R) (m R) z' places ≡ false → BlockCoded R z' places out (record { number = 15; count = 0 }) out
-    coded-none h = refused-with 15 (code-number R z' places (length out) ∙ rw (eq-eqb block 0 e, h)) (λ q. omega arith)
+    coded-none h = refused-with 15 (number-none R z' places (length out) e h) (λ q. omega arith)
 
     pub coded-done : hasParity (tableFor R z') (kb R) (m R) z' places ≡ true → (n : ℕ) → n ≡ (kb R + m R) * z' → (out' : List ℕ)
         → out' ≡ coded (tableFor R z') (kb R) (m R) z' places ++ drop ((kb R + m R) * z') out
         → BlockCoded R z' places out (record { number = 0; count = n }) out'
     coded-done h n p out' q =
-        let c : codeNumber R z' places (length out) ≡ 0 = code-number R z' places (length out) ∙ rw (eq-eqb block 0 e, h) in
+        let c : codeNumber R z' places (length out) ≡ 0 = number-done R z' places (length out) e h in
         record {
           number = sym c;
           count = rw c (p ∙ sym (when-done 0 ((kb R + m R) * z') 0 refl));

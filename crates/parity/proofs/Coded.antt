@@ -1,5 +1,5 @@
 -- The coded block: what its definition, a search over all choices of parity bits, gives, and that the quick way gives it wherever there
--- is one. Assumes nothing.
+-- is one.
 use mathlib.Core.Path.{_≡_, refl, sym, ap, ap₂, _∙_, subst}
 use mathlib.Core.Bool.{Bool, true, false}
 use mathlib.Core.List.{List, _++_}
@@ -8,9 +8,9 @@ use native.Mathlib.Nat.{add-mul}
 use native.Mathlib.Omega.{arith}
 use lib.ListN.{length, getD, take, drop, length-append, length-drop, take-append-drop, List·getD-append}
 use lib.Seq.{ext-getD, getD-append-add, getD-take, getD-drop, length-take-le, take-at}
-use Rattle.bits.specs.Bits.{AreBits, digits, number}
-use Rattle.bits.specs.Ranges.{firstTo}
-use Rattle.bits.proofs.Digits.{length-digits, digits-bits, digits-number, number-lt}
+use Rattle.bits.specs.Bits.{AreBits, digits, valueOf}
+use Rattle.bits.specs.Ranges.{firstBelow}
+use Rattle.bits.proofs.Digits.{length-digits, digits-bits, digits-value, value-lt}
 use Rattle.bits.proofs.Ranges.{any-of, first-some}
 use Rattle.parity.specs.Matrix.{checks}
 use Rattle.parity.specs.Coded.{withParity, checksWith, hasParity, coded}
@@ -49,14 +49,14 @@ module _ (kb m z : ℕ) (sys : List ℕ) (size : length sys ≡ kb * z) where
     rest-length : length (drop (kb * z) w) ≡ m * z
     rest-length = length-drop (kb * z) w ∙ omega (arith, add-mul kb m z)
 
-    choice-lt : number (drop (kb * z) w) < 2 ^ (m * z)
-    choice-lt = subst (λ (n : ℕ). number (drop (kb * z) w) < 2 ^ n) rest-length (number-lt (drop (kb * z) w) rest-bits)
+    choice-lt : valueOf (drop (kb * z) w) < 2 ^ (m * z)
+    choice-lt = subst (λ (n : ℕ). valueOf (drop (kb * z) w) < 2 ^ n) rest-length (value-lt (drop (kb * z) w) rest-bits)
 
-    choice-is : withParity m z sys (number (drop (kb * z) w)) ≡ w
+    choice-is : withParity m z sys (valueOf (drop (kb * z) w)) ≡ w
     unfolding withParity
     choice-is =
         ap₂ (λ (a b : List ℕ). a ++ b) (sym front)
-        (ap (λ (n : ℕ). digits n (number (drop (kb * z) w))) (sym rest-length) ∙ digits-number (drop (kb * z) w) rest-bits)
+        (ap (λ (n : ℕ). digits n (valueOf (drop (kb * z) w))) (sym rest-length) ∙ digits-value (drop (kb * z) w) rest-bits)
         ∙ take-append-drop (kb * z) w
 
   -- a word that was solved behind the places
@@ -74,15 +74,15 @@ module _ (kb m z : ℕ) (sys : List ℕ) (size : length sys ≡ kb * z) where
   module _ (T : List ℕ) where
     pub coded-length : length (coded T kb m z sys) ≡ (kb + m) * z
     unfolding coded
-    coded-length = with-length (firstTo (2 ^ (m * z)) (checksWith T kb m z sys))
+    coded-length = with-length (firstBelow (2 ^ (m * z)) (checksWith T kb m z sys))
 
     pub coded-take : take (kb * z) (coded T kb m z sys) ≡ sys
     unfolding coded
-    coded-take = with-take (firstTo (2 ^ (m * z)) (checksWith T kb m z sys))
+    coded-take = with-take (firstBelow (2 ^ (m * z)) (checksWith T kb m z sys))
 
     pub coded-bits : (p : ℕ) → kb * z ≤ p → getD (coded T kb m z sys) p 0 < 2
     unfolding coded
-    coded-bits = with-bits (firstTo (2 ^ (m * z)) (checksWith T kb m z sys))
+    coded-bits = with-bits (firstBelow (2 ^ (m * z)) (checksWith T kb m z sys))
 
     pub coded-checks : hasParity T kb m z sys ≡ true → checks T m (kb + m) z (coded T kb m z sys) ≡ true
     unfolding hasParity coded checksWith
@@ -93,7 +93,7 @@ module _ (kb m z : ℕ) (sys : List ℕ) (size : length sys ≡ kb * z) where
     coded-solution S e =
         record {
           size = coded-length;
-          front = with-front (firstTo (2 ^ (m * z)) (checksWith T kb m z sys));
+          front = with-front (firstBelow (2 ^ (m * z)) (checksWith T kb m z sys));
           bits = coded-bits;
           solved = checked-solved T kb m z (coded T kb m z sys) S (coded-checks e);
         }
@@ -108,7 +108,7 @@ module _ (kb m z : ℕ) (sys : List ℕ) (size : length sys ≡ kb * z) where
       pub solved-has : checks T m (kb + m) z w ≡ true → hasParity T kb m z sys ≡ true
       unfolding hasParity checksWith
       solved-has e =
-          any-of (2 ^ (m * z)) (checksWith T kb m z sys) (number (drop (kb * z) w)) (choice-lt w (h .size) front-taken (h .bits))
+          any-of (2 ^ (m * z)) (checksWith T kb m z sys) (valueOf (drop (kb * z) w)) (choice-lt w (h .size) front-taken (h .bits))
           (ap (checks T m (kb + m) z) (choice-is w (h .size) front-taken (h .bits)) ∙ e)
 
       pub solved-coded : hasParity T kb m z sys ≡ true → w ≡ coded T kb m z sys
@@ -136,12 +136,3 @@ module _ (kb m z : ℕ) (sys : List ℕ) (size : length sys ≡ kb * z) where
         } in
         let has = solved-has S w h e in
         (has, solved-coded S w h has)
-
--- a word that checks is determined by its systematic places
-pub word-unique : (T : List ℕ) (kb m z : ℕ) (u v : List ℕ) → Staircase T kb m → length u ≡ (kb + m) * z → length v ≡ (kb + m) * z
-    → take (kb * z) u ≡ take (kb * z) v → ((p : ℕ) → kb * z ≤ p → getD u p 0 < 2) → ((p : ℕ) → kb * z ≤ p → getD v p 0 < 2)
-    → checks T m (kb + m) z u ≡ true → checks T m (kb + m) z v ≡ true → u ≡ v
-word-unique T kb m z u v S lu lv front bu bv cu cv =
-    let size : length (take (kb * z) u) ≡ kb * z = length-take-le (kb * z) u (omega (arith, add-mul kb m z)) in
-    coded-unique kb m z (take (kb * z) u) size T S u lu refl bu cu .1
-    ∙ sym (coded-unique kb m z (take (kb * z) u) size T S v lv (sym front) bv cv .1)

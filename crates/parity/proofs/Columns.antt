@@ -1,4 +1,4 @@
--- The sums of the rows, column by column: a group doubled, an entry, a row and a column more, and the test of the sums. Assumes nothing.
+-- The sums of the rows, column by column: a group doubled, an entry, a row and a column more, and the test of the sums.
 use mathlib.Core.Path.{_≡_, refl, sym, ap, _∙_, subst, subst₂}
 use mathlib.Core.Bool.{Bool, true, false, not}
 use mathlib.Core.List.{List}
@@ -11,14 +11,14 @@ use lib.ListN.{length, getD, take, replicate, List·getD-eq-default}
 use lib.Seq.{length-take-le}
 use borrow.Author.Tests.{eq-eqb, ne-eqb}
 use Rattle.bits.specs.Bits.{AreBits, someOver}
-use Rattle.bits.specs.Ranges.{sumTo}
+use Rattle.bits.specs.Ranges.{sumBelow}
 use Rattle.bits.proofs.Over.{none-over, not-over}
 use Rattle.bits.proofs.Ranges.{last-or, below-or, equal-or}
 use Rattle.profile.specs.Record.{entry}
-use Rattle.parity.specs.Matrix.{bitAt, checks}
-use Rattle.parity.specs.steps.Grouped.{share, term, rowPart, Shape}
+use Rattle.parity.specs.Matrix.{checks}
+use Rattle.parity.specs.steps.Grouped.{lowBit, entryBit, term, rowPart, Shape}
 use Rattle.parity.specs.steps.Runs.{Run, copied, added, entered, Doubled, Sums}
-use Rattle.parity.proofs.Spread.{share-empty, share-filled, checks-row, row-checks}
+use Rattle.parity.proofs.Spread.{entry-bit-empty, entry-bit-filled, checks-row, row-checks}
 use Rattle.parity.proofs.Rows.{part-same}
 use Rattle.parity.proofs.Runs.{zeros-take, run-bits, run-same, copied-lt}
 
@@ -41,11 +41,11 @@ doubled w base z a b c h p q =
           below-or k z
           (λ o.
           q .below k o ∙ ap (λ (x : ℕ). getD b x 0) (sym (zero-add k)) ∙ p .inside k o
-          ∙ ap (λ (x : ℕ). bitAt w (base + x)) (sym (mod-eq-of-lt o)))
+          ∙ ap (λ (x : ℕ). lowBit w (base + x)) (sym (mod-eq-of-lt o)))
           (λ o.
           let e : z + (k - z) ≡ k = omega arith in
           ap (λ (x : ℕ). getD c x 0) (sym e) ∙ q .inside (k - z) (omega arith)
-          ∙ ap (λ (x : ℕ). bitAt w (base + x)) (sym (mod-eq-sub-mod o ∙ mod-eq-of-lt (omega arith))));
+          ∙ ap (λ (x : ℕ). lowBit w (base + x)) (sym (mod-eq-sub-mod o ∙ mod-eq-of-lt (omega arith))));
     }
 
 -- ---- an entry
@@ -61,126 +61,126 @@ module _ (a : List ℕ) (at s : ℕ) (g : List ℕ) (z : ℕ) where
         above = λ p l. refl;
       }
 
-  pub entered-filled : (b : List ℕ) → (s ≡ 255 → ⊥) → Run z (added a at g s) a at b → Run z (entered a at s g) a at b
+  pub entered-filled : (from : ℕ) (b : List ℕ) → (s ≡ 255 → ⊥) → from ≡ s → Run z (added a at g from) a at b → Run z (entered a at s g) a at b
   unfolding added entered
-  entered-filled b n r = run-same (λ k l. rw (ne-eqb s 255 n)) r
+  entered-filled from b n e r = run-same (λ k l. rw (e, ne-eqb s 255 n)) r
 
   entered-lt : (k : ℕ) → entered a at s g k < 2
   unfolding entered
   entered-lt k = omega arith
 
--- read from the doubled group, it is what the entry adds to row t
-entered-share : (z : ℕ) (w : List ℕ) (base s t : ℕ) (a : List ℕ) (at : ℕ) (g : List ℕ) → Doubled w base z g → ((s ≡ 255 → ⊥) → s < z) → t < z
-    → entered a at s g t ≡ (getD a (at + t) 0 + share z w s base t) % 2
+-- read from the doubled group, it is what the entry adds to row u
+entered-entry-bit : (z : ℕ) (w : List ℕ) (base s u : ℕ) (a : List ℕ) (at : ℕ) (g : List ℕ) → Doubled w base z g → ((s ≡ 255 → ⊥) → s < z) → u < z
+    → entered a at s g u ≡ (getD a (at + u) 0 + entryBit z w s base u) % 2
 unfolding entered
-entered-share z w base s t a at g d h low =
-    ap (λ (x : ℕ). (getD a (at + t) 0 + x) % 2)
-    (equal-or s 255 (λ e. rw (eq-eqb s 255 e) (sym (share-empty z w s base t e)))
+entered-entry-bit z w base s u a at g d h low =
+    ap (λ (x : ℕ). (getD a (at + u) 0 + x) % 2)
+    (equal-or s 255 (λ e. rw (eq-eqb s 255 e) (sym (entry-bit-empty z w s base u e)))
     (λ n. rw (ne-eqb s 255 n)
-    (d .at (s + t) (omega (arith, h n)) ∙ ap (λ (x : ℕ). bitAt w (base + x % z)) (add-comm s t) ∙ sym (share-filled z w s base t n))))
+    (d .at (s + u) (omega (arith, h n)) ∙ ap (λ (x : ℕ). lowBit w (base + x % z)) (add-comm s u) ∙ sym (entry-bit-filled z w s base u n))))
 
 -- ---- the sums
 
 -- m rows of z places, of the room for the largest table
-room-length : {T : List ℕ} {m wide z : ℕ} → Shape T m wide z → length (take (m * z) (replicate {A = ℕ} 972 0)) ≡ m * z
+room-length : {T : List ℕ} {m columns z : ℕ} → Shape T m columns z → length (take (m * z) (replicate {A = ℕ} 972 0)) ≡ m * z
 room-length {m = m} {z = z} shape = length-take-le (m * z) (replicate 972 0) (mul-le-mul (shape .m-most) (shape .z-most))
 
-module _ (T : List ℕ) (m wide z : ℕ) (w : List ℕ) where
-  part-more : (j i t : ℕ) → rowPart T wide z w (suc j) i t ≡ rowPart T wide z w j i t + share z w (getD T (i * wide + j) 0) (j * z) t
-  unfolding rowPart sumTo term entry
-  part-more j i t = refl
+module _ (T : List ℕ) (m columns z : ℕ) (w : List ℕ) where
+  part-more : (j i u : ℕ) → rowPart T columns z w (suc j) i u ≡ rowPart T columns z w j i u + entryBit z w (getD T (i * columns + j) 0) (j * z) u
+  unfolding rowPart sumBelow term entry
+  part-more j i u = refl
 
   -- over no column
-  sums-none : (s : List ℕ) → length s ≡ m * z → ((k : ℕ) → getD s k 0 ≡ 0) → Sums T m wide z w 0 0 s
-  unfolding rowPart sumTo
+  sums-none : (s : List ℕ) → length s ≡ m * z → ((k : ℕ) → getD s k 0 ≡ 0) → Sums T m columns z w 0 0 s
+  unfolding rowPart sumBelow
   sums-none s e h =
       record {
         size = e;
         bits = λ k. omega (arith, h k);
-        done = λ i t l. absurd (omega arith);
-        left = λ i t l o low. h (i * z + t);
+        done = λ i u l. absurd (omega arith);
+        left = λ i u l o low. h (i * z + u);
       }
 
-  pub sums-room : Shape T m wide z → Sums T m wide z w 0 0 (take (m * z) (replicate 972 0))
+  pub sums-room : Shape T m columns z → Sums T m columns z w 0 0 (take (m * z) (replicate 972 0))
   sums-room shape = sums-none (take (m * z) (replicate 972 0)) (room-length shape) (zeros-take (m * z) 972)
 
   -- one row more of column j
-  row-made : (j i : ℕ) (g a b : List ℕ) → Shape T m wide z → Doubled w (j * z) z g → i < m → Sums T m wide z w j i a
-      → Run z (entered a (i * z) (getD T (i * wide + j) 0) g) a (i * z) b → Sums T m wide z w j (i + 1) b
+  row-made : (j i : ℕ) (g a b : List ℕ) → Shape T m columns z → Doubled w (j * z) z g → i < m → Sums T m columns z w j i a
+      → Run z (entered a (i * z) (getD T (i * columns + j) 0) g) a (i * z) b → Sums T m columns z w j (i + 1) b
   row-made j i g a b shape d h sums r =
       record {
         size = r .len ∙ sums .size;
-        bits = run-bits _ a (i * z) z b r (λ k l. entered-lt a (i * z) (getD T (i * wide + j) 0) g z k) (sums .bits);
-        done = λ i' t l low.
-            last-or i' i (omega arith) (λ o. r .below (i' * z + t) (digits-lt o low) ∙ sums .done i' t o low)
-            (λ q. here i' t q low);
-        left = λ i' t l o low.
-            r .above (i' * z + t) (omega (arith, group-in i i' z (omega arith))) ∙ sums .left i' t (omega arith) o low;
+        bits = run-bits _ a (i * z) z b r (λ k l. entered-lt a (i * z) (getD T (i * columns + j) 0) g z k) (sums .bits);
+        done = λ i' u l low.
+            last-or i' i (omega arith) (λ o. r .below (i' * z + u) (digits-lt o low) ∙ sums .done i' u o low)
+            (λ q. here i' u q low);
+        left = λ i' u l o low.
+            r .above (i' * z + u) (omega (arith, group-in i i' z (omega arith))) ∙ sums .left i' u (omega arith) o low;
       }
     where
-      here : (i' t : ℕ) → i' ≡ i → t < z → getD b (i' * z + t) 0 ≡ rowPart T wide z w (suc j) i' t % 2
-      here i' t q low =
-          let e : getD b (i' * z + t) 0 ≡ getD b (i * z + t) 0 = ap (λ (x : ℕ). getD b (x * z + t) 0) q in
-          let f : rowPart T wide z w (suc j) i' t ≡ rowPart T wide z w (suc j) i t = ap (λ (x : ℕ). rowPart T wide z w (suc j) x t) q in
+      here : (i' u : ℕ) → i' ≡ i → u < z → getD b (i' * z + u) 0 ≡ rowPart T columns z w (suc j) i' u % 2
+      here i' u q low =
+          let e : getD b (i' * z + u) 0 ≡ getD b (i * z + u) 0 = ap (λ (x : ℕ). getD b (x * z + u) 0) q in
+          let f : rowPart T columns z w (suc j) i' u ≡ rowPart T columns z w (suc j) i u = ap (λ (x : ℕ). rowPart T columns z w (suc j) x u) q in
           omega (
             arith,
             e,
             f,
-            r .inside t low,
-            entered-share z w (j * z) (getD T (i * wide + j) 0) t a (i * z) g d (shape .shifts (i * wide + j)) low,
-            sums .left i t (omega arith) h low,
-            part-more j i t,
+            r .inside u low,
+            entered-entry-bit z w (j * z) (getD T (i * columns + j) 0) u a (i * z) g d (shape .shifts (i * columns + j)) low,
+            sums .left i u (omega arith) h low,
+            part-more j i u,
           )
 
-  pub sums-row : {j i at e : ℕ} {g a b : List ℕ} → Shape T m wide z → Doubled w (j * z) z g → i < m → at ≡ i * z → e ≡ i * wide + j
-      → Sums T m wide z w j i a → Run z (entered a at (getD T e 0) g) a at b → Sums T m wide z w j (i + 1) b
-  sums-row {j} {i} {at} {e} {g} {a} {b} shape d h p q sums r =
-      row-made j i g a b shape d h sums (subst₂ (λ (x y : ℕ). Run z (entered a x (getD T y 0) g) a x b) p q r)
+  pub sums-row : {j i n at e : ℕ} {g a b : List ℕ} → Shape T m columns z → Doubled w (j * z) z g → i < m → n ≡ i + 1 → at ≡ i * z → e ≡ i * columns + j
+      → Sums T m columns z w j i a → Run z (entered a at (getD T e 0) g) a at b → Sums T m columns z w j n b
+  sums-row {j} {i} {n} {at} {e} {g} {a} {b} shape d h next p q sums r =
+      rw next (row-made j i g a b shape d h sums (subst₂ (λ (x y : ℕ). Run z (entered a x (getD T y 0) g) a x b) p q r))
 
   -- a whole column more
-  pub sums-column : {j i : ℕ} {s : List ℕ} → m ≤ i → Sums T m wide z w j i s → Sums T m wide z w (j + 1) 0 s
+  pub sums-column : {j i : ℕ} {s : List ℕ} → m ≤ i → Sums T m columns z w j i s → Sums T m columns z w (j + 1) 0 s
   sums-column {j} {i} {s} h sums =
       record {
         size = sums .size;
         bits = sums .bits;
-        done = λ i t l. absurd (omega arith);
-        left = λ i' t l o low. rw (add-one j) (sums .done i' t (omega arith) low);
+        done = λ i u l. absurd (omega arith);
+        left = λ i' u l o low. rw (add-one j) (sums .done i' u (omega arith) low);
       }
 
-  pub sums-all : {j n : ℕ} {s : List ℕ} → j ≤ n → n ≤ j → Sums T m wide z w j 0 s → Sums T m wide z w n 0 s
-  sums-all {j} {n} {s} h l sums = subst (λ (x : ℕ). Sums T m wide z w x 0 s) (le-antisymm h l) sums
+  pub sums-all : {j n : ℕ} {s : List ℕ} → j ≤ n → n ≤ j → Sums T m columns z w j 0 s → Sums T m columns z w n 0 s
+  sums-all {j} {n} {s} h l sums = subst (λ (x : ℕ). Sums T m columns z w x 0 s) (le-antisymm h l) sums
 
   -- a word that is the same in the columns that were added
-  pub sums-word : {n : ℕ} {s : List ℕ} (v : List ℕ) → 0 < z → ((p : ℕ) → p < n * z → bitAt w p ≡ bitAt v p)
-      → Sums T m wide z w n 0 s → Sums T m wide z v n 0 s
+  pub sums-word : {n : ℕ} {s : List ℕ} (v : List ℕ) → 0 < z → ((p : ℕ) → p < n * z → lowBit w p ≡ lowBit v p)
+      → Sums T m columns z w n 0 s → Sums T m columns z v n 0 s
   sums-word {n} {s} v some same sums =
       record {
         size = sums .size;
         bits = sums .bits;
-        done = λ i t l. absurd (omega arith);
-        left = λ i t l o low. sums .left i t l o low ∙ ap (λ (x : ℕ). x % 2) (part-same T wide z w v n some same i t);
+        done = λ i u l. absurd (omega arith);
+        left = λ i u l o low. sums .left i u l o low ∙ ap (λ (x : ℕ). x % 2) (part-same T columns z w v n some same i u);
       }
 
   -- over all columns: no sum is over 0 exactly where the word checks
-  module _ (s : List ℕ) (some : 0 < z) (sums : Sums T m wide z w wide 0 s) where
-    sum-at : (p : ℕ) → p < m * z → getD s p 0 ≡ rowPart T wide z w wide (p / z) (p % z) % 2
+  module _ (s : List ℕ) (some : 0 < z) (sums : Sums T m columns z w columns 0 s) where
+    sum-at : (p : ℕ) → p < m * z → getD s p 0 ≡ rowPart T columns z w columns (p / z) (p % z) % 2
     sum-at p l =
         ap (λ (x : ℕ). getD s x 0) (sym (div-add-mod' p z))
         ∙ sums .left (p / z) (p % z) (omega arith) (div-lt-iff-lt-mul some .1 l) (mod-lt p some)
 
-    zeros : checks T m wide z w ≡ true → (p : ℕ) → getD s p 0 ≤ 0
+    zeros : checks T m columns z w ≡ true → (p : ℕ) → getD s p 0 ≤ 0
     zeros e p =
         below-or p (m * z)
-        (λ l. omega (arith, sum-at p l, checks-row T wide z w m e (p / z) (p % z) (div-lt-iff-lt-mul some .1 l) (mod-lt p some)))
+        (λ l. omega (arith, sum-at p l, checks-row T columns z w m e (p / z) (p % z) (div-lt-iff-lt-mul some .1 l) (mod-lt p some)))
         (λ l. omega (arith, List·getD-eq-default s 0 {n = p} (omega (arith, sums .size))))
 
-    even : someOver 0 s ≡ false → checks T m wide z w ≡ true
-    even e = row-checks T wide z w m (λ i t h low. omega (arith, sums .left i t (omega arith) h low, none-over 0 s e (i * z + t)))
+    even : someOver 0 s ≡ false → checks T m columns z w ≡ true
+    even e = row-checks T columns z w m (λ i u h low. omega (arith, sums .left i u (omega arith) h low, none-over 0 s e (i * z + u)))
 
-    pub sums-checks : not (someOver 0 s) ≡ checks T m wide z w
-    sums-checks = by-values (someOver 0 s) (checks T m wide z w) refl refl
+    pub sums-checks : not (someOver 0 s) ≡ checks T m columns z w
+    sums-checks = by-values (someOver 0 s) (checks T m columns z w) refl refl
       where
-        by-values : (a b : Bool) → someOver 0 s ≡ a → checks T m wide z w ≡ b → not a ≡ b
+        by-values : (a b : Bool) → someOver 0 s ≡ a → checks T m columns z w ≡ b → not a ≡ b
         by-values false b p q = sym (even p) ∙ q
         by-values true false p q = refl
         by-values true true p q = sym (ap not (sym (not-over 0 s (zeros q)) ∙ p))

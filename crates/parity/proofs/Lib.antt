@@ -3,7 +3,6 @@ pub mod Rows
 pub mod Solve
 pub mod Unique
 pub mod Coded
-pub mod Worked
 pub mod Runs
 pub mod Columns
 pub mod Groups

@@ -1,5 +1,4 @@
 -- What a profile that is judged with 0 gives: tables of the right shape, which are staircases; and what coding by them comes to.
--- Assumes nothing.
 use mathlib.Core.Path.{_≡_, ap, ap₂, sym, _∙_}
 use mathlib.Core.Bool.{Bool, true, false}
 use mathlib.Core.List.{List, _++_}
@@ -9,7 +8,7 @@ use native.Mathlib.Omega.{arith}
 use lib.Dec.{eqb}
 use lib.ListN.{length, drop}
 use borrow.Author.Tests.{eqb-true}
-use Rattle.bits.specs.Ranges.{firstTo}
+use Rattle.bits.specs.Ranges.{firstBelow}
 use Rattle.bits.proofs.Ranges.{first-some}
 use Rattle.profile.specs.Record.{kb, m, t, z, table}
 use Rattle.profile.specs.Promises.{judged}
@@ -36,7 +35,7 @@ module _ (R : List ℕ) (e : judged R ≡ 0) (i : ℕ) (below : i < t R) where
         z-most = a .z-high i below;
         m-some = omega (arith, a .m-low);
         m-most = a .m-high;
-        wide-most = omega (arith, a .kb-high, a .m-high);
+        columns-most = omega (arith, a .kb-high, a .m-high);
       }
 
   pub table-stairs : Staircase (table R i) (kb R) (m R)
@@ -45,14 +44,14 @@ module _ (R : List ℕ) (e : judged R ≡ 0) (i : ℕ) (below : i < t R) where
 -- ---- the table of a size z'
 
 pub record Ready (R : List ℕ) (z' : ℕ) : Type 0 where
-  pub below : firstTo (t R) (λ i. eqb (z R i) z') < t R
+  pub below : firstBelow (t R) (λ i. eqb (z R i) z') < t R
   pub shape : Shape (tableFor R z') (m R) (kb R + m R) z'
   pub stairs : Staircase (tableFor R z') (kb R) (m R)
 
 pub ready : (R : List ℕ) (z' : ℕ) → judged R ≡ 0 → hasSize R z' ≡ true → Ready R z'
 unfolding hasSize tableFor
 ready R z' e h =
-    let i : ℕ = firstTo (t R) (λ j. eqb (z R j) z') in
+    let i : ℕ = firstBelow (t R) (λ j. eqb (z R j) z') in
     let found = first-some (t R) (λ j. eqb (z R j) z') h in
     record {
       below = found .below;
@@ -67,12 +66,12 @@ module _ (R : List ℕ) (z' : ℕ) (e : judged R ≡ 0) (h : hasSize R z' ≡ tr
   pub places-most : (k + n) * z' ≤ 2592
   places-most =
       let shape = ready R z' e h .shape in
-      rw (kb-is, m-is) (mul-le-mul (shape .wide-most) (shape .z-most))
+      rw (kb-is, m-is) (mul-le-mul (shape .columns-most) (shape .z-most))
 
   pub shape-read : (T : List ℕ) → T ≡ tableFor R z' → Shape T n (k + n) z'
   shape-read T table-is = rw (table-is, kb-is, m-is) (ready R z' e h .shape)
 
-pub table-read : (R : List ℕ) (z' i : ℕ) (T : List ℕ) → T ≡ table R i → i ≡ firstTo (t R) (λ j. eqb (z R j) z') → T ≡ tableFor R z'
+pub table-read : (R : List ℕ) (z' i : ℕ) (T : List ℕ) → T ≡ table R i → i ≡ firstBelow (t R) (λ j. eqb (z R j) z') → T ≡ tableFor R z'
 unfolding tableFor
 table-read R z' i T e q = e ∙ ap (table R) q
 

@@ -1,4 +1,4 @@
--- What a row of a staircase table sums to: its first kb + 1 columns, and two places of the stairs. Assumes nothing.
+-- What a row of a staircase table sums to: its first kb + 1 columns, and two places of the stairs.
 use mathlib.Core.Path.{_≡_, refl, sym, ap, ap₂, _∙_}
 use mathlib.Core.Bool.{cond}
 use mathlib.Core.List.{List}
@@ -8,80 +8,74 @@ use native.Mathlib.Omega.{arith}
 use lib.Arith.{digits-lt}
 use lib.Dec.{eqb, ltb}
 use borrow.Author.Tests.{lt-ltb, le-ltb}
-use Rattle.bits.specs.Ranges.{sumTo}
+use Rattle.bits.specs.Ranges.{sumBelow}
 use Rattle.bits.proofs.Ranges.{last-or}
 use Rattle.bits.proofs.Sums.{sum-more, sum-join, sum-same, sum-add, sum-one, sum-two}
 use Rattle.profile.specs.Record.{entry}
-use Rattle.parity.specs.Matrix.{bitAt}
-use Rattle.parity.specs.steps.Grouped.{share, term, rowPart, stack}
+use Rattle.parity.specs.steps.Grouped.{lowBit, entryBit, term, rowPart, stack}
 use Rattle.profile.proofs.Stairs.{Staircase}
-use Rattle.parity.proofs.Spread.{share-empty}
+use Rattle.parity.proofs.Spread.{entry-bit-empty}
 
-pub bit-lt : (w : List ℕ) (p : ℕ) → bitAt w p < 2
-unfolding bitAt
+pub bit-lt : (w : List ℕ) (p : ℕ) → lowBit w p < 2
+unfolding lowBit
 bit-lt w p = omega arith
 
 -- the entry 0
-share-zero : (z : ℕ) (w : List ℕ) (s base t : ℕ) → s ≡ 0 → t < z → share z w s base t ≡ bitAt w (base + t)
-unfolding share
-share-zero z w s base t e l = rw (e, add-zero, mod-eq-of-lt l)
+entry-bit-zero : (z : ℕ) (w : List ℕ) (s base u : ℕ) → s ≡ 0 → u < z → entryBit z w s base u ≡ lowBit w (base + u)
+unfolding entryBit
+entry-bit-zero z w s base u e l = rw (e, add-zero, mod-eq-of-lt l)
 
 -- ---- two words that agree in the first n groups have the same sums there
 
-module _ (T : List ℕ) (wide z : ℕ) (u v : List ℕ) (n : ℕ) (some : 0 < z) (same : (p : ℕ) → p < n * z → bitAt u p ≡ bitAt v p) where
-  pub part-same : (i t : ℕ) → rowPart T wide z u n i t ≡ rowPart T wide z v n i t
-  unfolding rowPart term share
-  part-same i t =
-      sum-same n _ _ (λ j l. ap (cond (eqb (entry T wide i j) 255) 0) (same _ (digits-lt l (mod-lt (t + entry T wide i j) some))))
+module _ (T : List ℕ) (columns z : ℕ) (v w : List ℕ) (n : ℕ) (some : 0 < z) (same : (p : ℕ) → p < n * z → lowBit v p ≡ lowBit w p) where
+  pub part-same : (i u : ℕ) → rowPart T columns z v n i u ≡ rowPart T columns z w n i u
+  unfolding rowPart term entryBit
+  part-same i u =
+      sum-same n _ _ (λ j l. ap (cond (eqb (entry T columns i j) 255) 0) (same _ (digits-lt l (mod-lt (u + entry T columns i j) some))))
 
-  pub stack-same : (r t : ℕ) → stack T wide z u n r t ≡ stack T wide z v n r t
+  pub stack-same : (r u : ℕ) → stack T columns z v n r u ≡ stack T columns z w n r u
   unfolding stack
-  stack-same r t = sum-same r _ _ (λ i l. part-same i t)
+  stack-same r u = sum-same r _ _ (λ i l. part-same i u)
 
--- one row more; one column more over all rows
-pub stack-more : (T : List ℕ) (wide z : ℕ) (w : List ℕ) (n r t : ℕ)
-    → stack T wide z w n (suc r) t ≡ stack T wide z w n r t + rowPart T wide z w n r t
-unfolding stack sumTo
-stack-more T wide z w n r t = refl
-
-pub stack-column : (T : List ℕ) (wide z : ℕ) (w : List ℕ) (n r t : ℕ)
-    → stack T wide z w (suc n) r t ≡ stack T wide z w n r t + sumTo r (λ i. term T wide z w i t n)
-unfolding stack rowPart sumTo
-stack-column T wide z w n r t = sum-add r (λ i. rowPart T wide z w n i t) (λ i. term T wide z w i t n)
+-- one column more over all rows
+pub stack-column : (T : List ℕ) (columns z : ℕ) (w : List ℕ) (n r u : ℕ)
+    → stack T columns z w (suc n) r u ≡ stack T columns z w n r u + sumBelow r (λ i. term T columns z w i u n)
+unfolding stack rowPart sumBelow
+stack-column T columns z w n r u = sum-add r (λ i. rowPart T columns z w n i u) (λ i. term T columns z w i u n)
 
 -- ---- the stairs: the bit of column kb + n where 0 < n < m, and else nothing
 
 unfoldable pub edge : List ℕ → ℕ → ℕ → ℕ → ℕ → ℕ → ℕ
-edge w kb m z t zero = 0
-edge w kb m z t (suc n) = cond (ltb (suc n) m) (bitAt w ((kb + suc n) * z + t)) 0
+edge w kb m z u zero = 0
+edge w kb m z u (suc n) = cond (ltb (suc n) m) (lowBit w ((kb + suc n) * z + u)) 0
 
-module _ (w : List ℕ) (kb m z t : ℕ) where
-  pub edge-in : (n : ℕ) → suc n < m → edge w kb m z t (suc n) ≡ bitAt w ((kb + suc n) * z + t)
+module _ (w : List ℕ) (kb m z u : ℕ) where
+  pub edge-in : (n : ℕ) → suc n < m → edge w kb m z u (suc n) ≡ lowBit w ((kb + suc n) * z + u)
   unfolding edge
   edge-in n h = rw (lt-ltb (suc n) m h)
 
-  pub edge-out : (n : ℕ) → m ≤ n → edge w kb m z t n ≡ 0
+  pub edge-out : (n : ℕ) → m ≤ n → edge w kb m z u n ≡ 0
   unfolding edge
   edge-out zero h = refl
   edge-out (suc n) h = rw (le-ltb (suc n) m h)
 
-module _ (T : List ℕ) (kb m z : ℕ) (w : List ℕ) (S : Staircase T kb m) (t : ℕ) (low : t < z) where
+module _ (T : List ℕ) (kb m z : ℕ) (w : List ℕ) (S : Staircase T kb m) (u : ℕ) (low : u < z) where
   abbrev at : ℕ → ℕ → ℕ
-  at i j = term T (kb + m) z w i t j
+  at i j = term T (kb + m) z w i u j
 
   abbrev stair : ℕ → ℕ → ℕ
   stair i j = at i (kb + suc j)
 
-  on : (i j : ℕ) → entry T (kb + m) i (kb + suc j) ≡ 0 → suc j < m → stair i j ≡ edge w kb m z t (suc j)
+  on : (i j : ℕ) → entry T (kb + m) i (kb + suc j) ≡ 0 → suc j < m → stair i j ≡ edge w kb m z u (suc j)
   unfolding term
-  on i j e h = share-zero z w _ ((kb + suc j) * z) t e low ∙ sym (edge-in w kb m z t j h)
+  on i j e h = entry-bit-zero z w _ ((kb + suc j) * z) u e low ∙ sym (edge-in w kb m z u j h)
 
   off : (i j : ℕ) → entry T (kb + m) i (kb + suc j) ≡ 255 → stair i j ≡ 0
   unfolding term
-  off i j e = share-empty z w _ ((kb + suc j) * z) t e
+  off i j e = entry-bit-empty z w _ ((kb + suc j) * z) u e
 
   -- the columns past kb, of which there are n
-  tail : (n i : ℕ) → suc n ≡ m → i < m → sumTo n (stair i) ≡ edge w kb m z t i + edge w kb m z t (suc i)
+  tail : (n i : ℕ) → suc n ≡ m → i < m → sumBelow n (stair i) ≡ edge w kb m z u i + edge w kb m z u (suc i)
   unfolding edge
   tail n zero e h =
       let l : 1 < m = omega (arith, S .before) in
@@ -95,30 +89,30 @@ module _ (T : List ℕ) (kb m z : ℕ) (w : List ℕ) (S : Staircase T kb m) (t 
       (λ q. sum-one n (stair (suc i)) i (omega arith)
       (λ k o d. off (suc i) k (S .rest (suc i) k h (omega arith) (λ r. omega arith) (λ r. d (omega arith))))
       ∙ on (suc i) i (S .lower i h) h ∙ sym (add-zero _)
-      ∙ ap (λ (x : ℕ). edge w kb m z t (suc i) + x) (sym (edge-out w kb m z t (suc (suc i)) (omega arith))))
+      ∙ ap (λ (x : ℕ). edge w kb m z u (suc i) + x) (sym (edge-out w kb m z u (suc (suc i)) (omega arith))))
 
   pub row-shape : (i : ℕ) → i < m
-      → rowPart T (kb + m) z w (kb + m) i t ≡ rowPart T (kb + m) z w (suc kb) i t + (edge w kb m z t i + edge w kb m z t (suc i))
+      → rowPart T (kb + m) z w (kb + m) i u ≡ rowPart T (kb + m) z w (suc kb) i u + (edge w kb m z u i + edge w kb m z u (suc i))
   unfolding rowPart
   row-shape = by-rows m refl
     where
       by-rows : (n : ℕ) → n ≡ m → (i : ℕ) → i < m
-          → sumTo (kb + m) (at i) ≡ sumTo (suc kb) (at i) + (edge w kb m z t i + edge w kb m z t (suc i))
+          → sumBelow (kb + m) (at i) ≡ sumBelow (suc kb) (at i) + (edge w kb m z u i + edge w kb m z u (suc i))
       by-rows zero e i h = absurd (omega arith)
       by-rows (suc n) e i h =
-          let s : sumTo (kb + m) (at i) ≡ sumTo (suc kb + n) (at i) = ap (λ (x : ℕ). sumTo x (at i)) (omega arith) in
+          let s : sumBelow (kb + m) (at i) ≡ sumBelow (suc kb + n) (at i) = ap (λ (x : ℕ). sumBelow x (at i)) (omega arith) in
           s ∙ sum-join (suc kb) n (at i)
-          ∙ ap (λ (x : ℕ). sumTo (suc kb) (at i) + x) (sum-same n _ (stair i) (λ k l. ap (at i) (omega arith)) ∙ tail n i e h)
+          ∙ ap (λ (x : ℕ). sumBelow (suc kb) (at i) + x) (sum-same n _ (stair i) (λ k l. ap (at i) (omega arith)) ∙ tail n i e h)
 
   -- column kb over all rows: the two outer entries are equal
-  pub column-sum : (n : ℕ) → suc n ≡ m → sumTo m (λ i. at i kb) ≡ at 0 kb + bitAt w (kb * z + t) + at 0 kb
+  pub column-sum : (n : ℕ) → suc n ≡ m → sumBelow m (λ i. at i kb) ≡ at 0 kb + lowBit w (kb * z + u) + at 0 kb
   unfolding term
   column-sum n e =
       let p : suc (S .middle) < m = S .before in
-      ap (λ (x : ℕ). sumTo x (λ i. at i kb)) (sym e)
+      ap (λ (x : ℕ). sumBelow x (λ i. at i kb)) (sym e)
       ∙ sum-more n (λ i. at i kb)
       ∙ ap₂ (λ (x y : ℕ). x + y)
       (sum-two n (λ i. at i kb) 0 (S .middle) (S .after) (omega arith)
-      (λ k l d g. share-empty z w _ (kb * z) t (S .others k (omega arith) (omega arith) g))
-      ∙ ap (λ (x : ℕ). at 0 kb + x) (share-zero z w _ (kb * z) t (S .inner) low))
-      (ap (λ (s : ℕ). share z w s (kb * z) t) (S .outer n e))
+      (λ k l d g. entry-bit-empty z w _ (kb * z) u (S .others k (omega arith) (omega arith) g))
+      ∙ ap (λ (x : ℕ). at 0 kb + x) (entry-bit-zero z w _ (kb * z) u (S .inner) low))
+      (ap (λ (s : ℕ). entryBit z w s (kb * z) u) (S .outer n e))

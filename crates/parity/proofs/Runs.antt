@@ -1,4 +1,4 @@
--- Runs of places: one turn of a loop that makes one, and the groups that runs make. Assumes nothing.
+-- Runs of places: one turn of a loop that makes one, and the groups that runs make.
 use mathlib.Core.Path.{_≡_, refl, sym, ap, _∙_, subst}
 use mathlib.Core.List.{List, _++_}
 use Prim.Native.Nat.{ℕ, zero, suc, _+_, _-_, _%_, _≤_, _<_}
@@ -11,7 +11,7 @@ use lib.Seq.{getD-set-same, getD-set-other, drop-cons, sets, sets-eq}
 use Rattle.bits.specs.Bits.{AreBits}
 use Rattle.bits.proofs.Ranges.{last-or, below-or}
 use Rattle.bits.proofs.Xor.{xor-sum}
-use Rattle.parity.specs.Matrix.{bitAt}
+use Rattle.parity.specs.steps.Grouped.{lowBit}
 use Rattle.parity.specs.steps.Runs.{Run, copied, added}
 
 -- a list of zeros
@@ -55,9 +55,13 @@ module _ (f : ℕ → ℕ) (a : List ℕ) (at : ℕ) where
       omega (arith, ap (λ (x : ℕ). getD b x 0) e, r .inside (p - at) (omega arith), low (p - at) (omega arith)))
       (λ l. omega (arith, r .above p l, h p)))
 
--- what `& 1` stores
+-- the lowest digit, and what `& 1` stores
+pub copied-low : (g : List ℕ) (from k : ℕ) → copied g from k ≡ getD g (from + k) 0 % 2
+unfolding copied lowBit
+copied-low g from k = refl
+
 pub copied-is : (g : List ℕ) (from k : ℕ) → bitAnd (getD g (from + k) 0) 1 ≡ copied g from k
-unfolding copied bitAt
+unfolding copied lowBit
 copied-is g from k = and-mask (getD g (from + k) 0) 1
 
 -- what `^` stores, of two bits
@@ -73,8 +77,7 @@ added-is a at g from k b ha hg r =
     ap (λ (x : ℕ). bitXor x (getD g (from + k) 0)) (r .above (at + k) (omega arith)) ∙ xor-bits _ _ (ha (at + k)) (hg (from + k))
 
 pub copied-lt : (g : List ℕ) (from k : ℕ) → copied g from k < 2
-unfolding copied bitAt
-copied-lt g from k = omega arith
+copied-lt g from k = omega (arith, copied-low g from k)
 
 pub run-same : {n : ℕ} {f g : ℕ → ℕ} {a : List ℕ} {at : ℕ} {b : List ℕ} → ((k : ℕ) → k < n → f k ≡ g k) → Run n f a at b → Run n g a at b
 run-same h r = record { len = r .len; inside = λ k l. r .inside k l ∙ h k l; below = r .below; above = r .above }

@@ -3,7 +3,7 @@ use mathlib.Core.Bool.{Bool}
 use mathlib.Core.List.{List, _++_}
 use Prim.Native.Nat.{ℕ, _+_, _*_, _^_}
 use Rattle.bits.specs.Bits.{digits}
-use Rattle.bits.specs.Ranges.{anyTo, firstTo}
+use Rattle.bits.specs.Ranges.{anyBelow, firstBelow}
 use Rattle.parity.specs.Matrix.{checks}
 
 -- "K systematic places and then m·z parity bits": the word of the places sys with the n-th choice of parity bits
@@ -16,8 +16,9 @@ checksWith T kb m z sys n = checks T m (kb + m) z (withParity m z sys n)
 
 -- there are parity bits with which the block checks (number 15 where there are none)
 unfoldable pub hasParity : List ℕ → ℕ → ℕ → ℕ → List ℕ → Bool
-hasParity T kb m z sys = anyTo (2 ^ (m * z)) (checksWith T kb m z sys)
+hasParity T kb m z sys = anyBelow (2 ^ (m * z)) (checksWith T kb m z sys)
 
--- the coded block: the places with the parity bits with which they check; "Filler places stay marked"
+-- the coded block: the places with the first choice of parity bits with which they check (there is one at most; where there is none, 15 is answered);
+-- "Filler places stay marked"
 unfoldable pub coded : List ℕ → ℕ → ℕ → ℕ → List ℕ → List ℕ
-coded T kb m z sys = withParity m z sys (firstTo (2 ^ (m * z)) (checksWith T kb m z sys))
+coded T kb m z sys = withParity m z sys (firstBelow (2 ^ (m * z)) (checksWith T kb m z sys))

@@ -7,39 +7,40 @@ use lib.Dec.{eqb, ltb}
 use lib.ListN.{length, drop}
 use Rattle.bits.specs.Bits.{someOver}
 use Rattle.bits.specs.Numbers.{answered, whenDone}
-use Rattle.bits.specs.Ranges.{anyTo, firstTo}
+use Rattle.bits.specs.Ranges.{anyBelow, firstBelow}
 use Rattle.bits.specs.declared.number.Written.{Written}
-use Rattle.profile.specs.Record.{kb, m, t, z, table, wellFormed}
-use Rattle.profile.specs.Staircase.{staircases}
+use Rattle.profile.specs.Record.{kb, m, t, z, table}
+use Rattle.profile.specs.Promises.{judgeConditions}
 use Rattle.parity.specs.Matrix.{checks}
 use Rattle.parity.specs.Coded.{hasParity, coded}
 use Rattle.parity.specs.declared.Verdict.{Verdict}
 
 -- the record has the size z'; its table
 unfoldable pub hasSize : List ℕ → ℕ → Bool
-hasSize R z' = anyTo (t R) (λ i. eqb (z R i) z')
+hasSize R z' = anyBelow (t R) (λ i. eqb (z R i) z')
 
 unfoldable pub tableFor : List ℕ → ℕ → List ℕ
-tableFor R z' = table R (firstTo (t R) (λ i. eqb (z R i) z'))
+tableFor R z' = table R (firstBelow (t R) (λ i. eqb (z R i) z'))
 
 -- 8 "for a z or a word length that the profile does not give": a length other than n groups of z' places
 unfoldable pub unfit : List ℕ → ℕ → ℕ → List ℕ → Bool
 unfit R z' n w = not (hasSize R z') || not (eqb (length w) (n * z'))
 
--- ---- coding one block of places, where the output is `room` octets long
+-- ---- coding one block of places, where the output is `lent` octets long
 
+-- before it starts: "5 and 6 for a profile", 8, 11 "for an output shorter than what it would write", 12 for any octet "over 2 where filler marks
+-- are taken too"
+abbrev pub blockConditions : List ℕ → ℕ → List ℕ → ℕ → List (ℕ × Bool)
+blockConditions R z' places lent =
+    judgeConditions R ++ (8, unfit R z' (kb R) places) ∷ (11, ltb lent ((kb R + m R) * z')) ∷ (12, someOver 2 places) ∷ []
+
+-- and then 15 as sending answers it, "some block has no parity bits with which it checks"
 abbrev pub codeConditions : List ℕ → ℕ → List ℕ → ℕ → List (ℕ × Bool)
-codeConditions R z' places room =
-    (5, not (wellFormed R))
-    ∷ (6, not (staircases R))
-    ∷ (8, unfit R z' (kb R) places)
-    ∷ (11, ltb room ((kb R + m R) * z'))
-    ∷ (12, someOver 2 places)
-    ∷ (15, not (hasParity (tableFor R z') (kb R) (m R) z' places))
-    ∷ []
+codeConditions R z' places lent =
+    blockConditions R z' places lent ++ (15, not (hasParity (tableFor R z') (kb R) (m R) z' places)) ∷ []
 
 unfoldable pub codeNumber : List ℕ → ℕ → List ℕ → ℕ → ℕ
-codeNumber R z' places room = answered (codeConditions R z' places room)
+codeNumber R z' places lent = answered (codeConditions R z' places lent)
 
 pub record BlockCoded (R : List ℕ) (z' : ℕ) (places out : List ℕ) (r : Written) (out' : List ℕ) : Type 0 where
   pub number : r .number ≡ codeNumber R z' places (length out)
@@ -48,13 +49,9 @@ pub record BlockCoded (R : List ℕ) (z' : ℕ) (places out : List ℕ) (r : Wri
 
 -- ---- checking one word of bits
 
+-- "5 and 6 for a profile", 8, 12 "for any octet over 1 where single bits are taken"
 abbrev pub checkConditions : List ℕ → ℕ → List ℕ → List (ℕ × Bool)
-checkConditions R z' word =
-    (5, not (wellFormed R))
-    ∷ (6, not (staircases R))
-    ∷ (8, unfit R z' (kb R + m R) word)
-    ∷ (12, someOver 1 word)
-    ∷ []
+checkConditions R z' word = judgeConditions R ++ (8, unfit R z' (kb R + m R) word) ∷ (12, someOver 1 word) ∷ []
 
 unfoldable pub checkNumber : List ℕ → ℕ → List ℕ → ℕ
 checkNumber R z' word = answered (checkConditions R z' word)

@@ -15,7 +15,7 @@ fn is_unfit(profile: &[u8], z: usize, n: usize, w: &[u8]) -> bool
     ensures { λ r. ⌜ r ≡ unfit (now (profile .entry)) z n (now (w .entry)) ⌝ }
 {
     let t = profile::inner::t(profile);
-    if profile::inner::size_of(profile, z) == t {
+    if profile::inner::index_of(profile, z) == t {
         return true;
     }
     w.len() != n * z

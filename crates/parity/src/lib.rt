@@ -28,8 +28,8 @@ fn code_in(profile: &[u8], z: usize, places: &[u8], word: &mut [u8], out: &mut [
 {
     let kb = profile::inner::kb(profile);
     let m = profile::inner::m(profile);
-    let size = profile::inner::size_of(profile, z);
-    let table = profile::inner::table(profile, size);
+    let index = profile::inner::index_of(profile, z);
+    let table = profile::inner::table(profile, index);
     if !inner::attempt(table, kb, m, z, places, word) {
         return Written {
             number: NO_PARITY,
@@ -69,7 +69,7 @@ pub fn check_word(profile: &[u8], z: usize, word: &[u8]) -> Verdict
     }
     let kb = profile::inner::kb(profile);
     let m = profile::inner::m(profile);
-    let at = profile::inner::size_of(profile, z);
+    let at = profile::inner::index_of(profile, z);
     let table = profile::inner::table(profile, at);
     let checks = inner::checks(table, kb, m, z, word);
     Verdict { number, checks }

@@ -1,15 +1,14 @@
 // The sums of all rows of a table over the columns of a word, column by column.
 use crate::run;
+use profile::inner::EMPTY;
 ghost use mathlib.Core.Path.{_≡_};
 ghost use Prim.Native.Nat.{_+_, _*_, _≤_, _<_};
 ghost use lib.ListN.{length};
 ghost use Rattle.bits.specs.Bits.{AreBits};
+ghost use Rattle.profile.specs.Record.{empty};
 ghost use Rattle.parity.specs.Matrix.{checks};
 ghost use Rattle.parity.specs.steps.Grouped.{Shape};
 ghost use Rattle.parity.specs.steps.Runs.{Run, entered, Doubled, Sums};
-
-// An entry that holds no shift.
-const EMPTY: u8 = 255;
 
 // A column's group of z bits twice, one after the other: what a shift s turns round is then one straight run from s on.
 fn double(word: &[u8], base: usize, z: usize, g: &mut [u8])
@@ -20,13 +19,21 @@ fn double(word: &[u8], base: usize, z: usize, g: &mut [u8])
     run::copy_bits(g, z, word, base, z);
 }
 
+// Row i of a shift s has its one in column i + s: where its run begins in a doubled group.
+fn run_start(s: u8, z: usize) -> usize
+    requires { ⌜ s < z ⌝ }
+    ensures { λ r. ⌜ (r ≡ s) × (r < z) ⌝ }
+{
+    s as usize
+}
+
 // What the entry s adds to the z rows of its square, whose sums start at `at`: nothing where it is empty.
 fn add_entry(s: u8, g: &[u8], z: usize, sums: &mut [u8], at: usize)
-    requires { ⌜ ((s ≡ 255 → ⊥) → s < z) × (z + z ≤ length (now g)) × (at + z ≤ length (now sums)) × AreBits (now g) × AreBits (now sums) ⌝ }
+    requires { ⌜ ((s ≡ empty → ⊥) → s < z) × (z + z ≤ length (now g)) × (at + z ≤ length (now sums)) × AreBits (now g) × AreBits (now sums) ⌝ }
     ensures { λ _. ⌜ Run z (entered (now (sums .entry)) at s (now (g .entry))) (now (sums .entry)) at (now (sums .exit)) ⌝ }
 {
     if s != EMPTY {
-        run::xor_run(sums, at, g, s as usize, z);
+        run::xor_run(sums, at, g, run_start(s, z), z);
     }
 }
 
@@ -34,15 +41,15 @@ fn add_entry(s: u8, g: &[u8], z: usize, sums: &mut [u8], at: usize)
 fn add_column(
     table: &[u8],
     m: usize,
-    wide: usize,
+    columns: usize,
     z: usize,
     j: usize,
     word: &[u8],
     g: &mut [u8],
     sums: &mut [u8],
 )
-    requires { ⌜ Shape (now table) m wide z × (j < wide) × (length (now word) ≡ wide * z) × (length (now g) ≡ 162) × AreBits (now g) × Sums (now table) m wide z (now word) j 0 (now sums) ⌝ }
-    ensures { λ _. ⌜ AreBits (now (g .exit)) × Sums (now (table .entry)) m wide z (now (word .entry)) (j + 1) 0 (now (sums .exit)) ⌝ }
+    requires { ⌜ Shape (now table) m columns z × (j < columns) × (length (now word) ≡ columns * z) × (length (now g) ≡ 162) × AreBits (now g) × Sums (now table) m columns z (now word) j 0 (now sums) ⌝ }
+    ensures { λ _. ⌜ AreBits (now (g .exit)) × Sums (now (table .entry)) m columns z (now (word .entry)) (j + 1) 0 (now (sums .exit)) ⌝ }
 {
     double(word, j * z, z, g);
     let mut at = 0;
@@ -51,7 +58,7 @@ fn add_column(
     while i < m {
         add_entry(table[e], g, z, sums, at);
         at += z;
-        e += wide;
+        e += columns;
         i += 1;
     }
 }
@@ -60,29 +67,36 @@ fn add_column(
 pub fn add_columns(
     table: &[u8],
     m: usize,
-    wide: usize,
+    columns: usize,
     z: usize,
     from: usize,
     to: usize,
     word: &[u8],
     sums: &mut [u8],
 )
-    requires { ⌜ Shape (now table) m wide z × (from ≤ to) × (to ≤ wide) × (length (now word) ≡ wide * z) × Sums (now table) m wide z (now word) from 0 (now sums) ⌝ }
-    ensures { λ _. ⌜ Sums (now (table .entry)) m wide z (now (word .entry)) to 0 (now (sums .exit)) ⌝ }
+    requires { ⌜ Shape (now table) m columns z × (from ≤ to) × (to ≤ columns) × (length (now word) ≡ columns * z) × Sums (now table) m columns z (now word) from 0 (now sums) ⌝ }
+    ensures { λ _. ⌜ Sums (now (table .entry)) m columns z (now (word .entry)) to 0 (now (sums .exit)) ⌝ }
 {
     let mut g = [0u8; 162];
     let mut j = from;
     while j < to {
-        add_column(table, m, wide, z, j, word, &mut g, sums);
+        add_column(table, m, columns, z, j, word, &mut g, sums);
         j += 1;
     }
 }
 
 // Whether all rows sum to even numbers over the whole word. It looks at every sum, with no early way out.
-pub fn are_even(table: &[u8], m: usize, wide: usize, z: usize, word: &[u8], sums: &mut [u8]) -> bool
-    requires { ⌜ Shape (now table) m wide z × (length (now word) ≡ wide * z) × Sums (now table) m wide z (now word) 0 0 (now sums) ⌝ }
-    ensures { λ r. ⌜ r ≡ checks (now (table .entry)) m wide z (now (word .entry)) ⌝ }
+pub fn are_even(
+    table: &[u8],
+    m: usize,
+    columns: usize,
+    z: usize,
+    word: &[u8],
+    sums: &mut [u8],
+) -> bool
+    requires { ⌜ Shape (now table) m columns z × (length (now word) ≡ columns * z) × Sums (now table) m columns z (now word) 0 0 (now sums) ⌝ }
+    ensures { λ r. ⌜ r ≡ checks (now (table .entry)) m columns z (now (word .entry)) ⌝ }
 {
-    add_columns(table, m, wide, z, 0, wide, word, sums);
+    add_columns(table, m, columns, z, 0, columns, word, sums);
     !bits::inner::some_over(0, sums)
 }

@@ -1,19 +1,19 @@
--- What is known of a record that is judged with 0. Assumes nothing.
-use mathlib.Core.Path.{_≡_, refl}
+-- What is known of a record that is judged with 0.
+use mathlib.Core.Path.{_≡_, refl, sym, _∙_}
 use mathlib.Core.Bool.{true, not}
 use mathlib.Core.List.{List, [], _∷_}
 use Prim.Native.Nat.{ℕ, _+_, _*_, _≤_, _<_}
 use lib.Dec.{lit<}
 use lib.ListN.{length, getD}
 use borrow.Author.Tests.{not-false}
-use Rattle.bits.specs.Ranges.{allTo}
+use Rattle.bits.specs.Ranges.{allBelow}
 use Rattle.bits.proofs.Ranges.{both, all-at}
 use Rattle.bits.proofs.Answers.{passed}
-use Rattle.profile.specs.Record.{kb, m, t, z, offset, tableSize, table, offsetDue, tableRight, wellFormed}
+use Rattle.profile.specs.Record.{kb, m, t, z, offset, tableSize, table, empty, offsetDue, tableRight, wellFormed}
 use Rattle.profile.specs.Staircase.{staircase, staircases}
 use Rattle.profile.specs.Promises.{judged}
 use Rattle.profile.specs.steps.Shape.{shapeRight}
-use Rattle.profile.proofs.Shape.{Shape, shape-is, table-long, rise, entries-below}
+use Rattle.profile.proofs.Shape.{Shape, shape-is, table-long, rise, formed-is, entries-below}
 
 pub record Accepted (R : List ℕ) : Type 0 where
   pub kb-low : 1 ≤ kb R
@@ -29,17 +29,17 @@ pub record Accepted (R : List ℕ) : Type 0 where
   pub inside : (i : ℕ) → i < t R → offset R i + tableSize R ≤ length R
   pub area : tableSize R ≡ m R * (kb R + m R)
   pub long : (i : ℕ) → i < t R → length (table R i) ≡ tableSize R
-  pub shifts : (i : ℕ) → i < t R → (k : ℕ) → (getD (table R i) k 0 ≡ 255 → ⊥) → getD (table R i) k 0 < z R i
+  pub shifts : (i : ℕ) → i < t R → (k : ℕ) → (getD (table R i) k 0 ≡ empty → ⊥) → getD (table R i) k 0 < z R i
   pub stairs : (i : ℕ) → i < t R → staircase (table R i) (kb R) (m R) ≡ true
 
 module _ (R : List ℕ) where
   -- the tests that a record with number 0 has passed
-  pub tests-passed : judged R ≡ 0 → (shapeRight R ≡ true) × (allTo (t R) (tableRight R) ≡ true) × (staircases R ≡ true)
-  unfolding judged wellFormed shapeRight
+  pub tests-passed : judged R ≡ 0 → (shapeRight R ≡ true) × (allBelow (t R) (tableRight R) ≡ true) × (staircases R ≡ true)
+  unfolding judged
   tests-passed e =
       let five = passed 5 ((6, not (staircases R)) ∷ []) (not (wellFormed R)) (lit< tt) e in
       let six = passed 6 [] (not (staircases R)) (lit< tt) (five .1) in
-      let formed = both (shapeRight R) (allTo (t R) (tableRight R)) (not-false (wellFormed R) (five .0)) in
+      let formed = both (shapeRight R) (allBelow (t R) (tableRight R)) (sym (formed-is R) ∙ not-false (wellFormed R) (five .0)) in
       (formed .0, formed .1, not-false (staircases R) (six .0))
 
   pub accepted-shape : judged R ≡ 0 → Shape R

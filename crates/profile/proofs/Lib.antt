@@ -1,5 +1,6 @@
 pub mod Shape
 pub mod Stairs
+pub mod Walk
 pub mod Accepted
 pub mod Rounding
 pub mod Plans

@@ -1,6 +1,6 @@
--- What the tests of a record's header, length, sizes and entries say. Assumes nothing.
-use mathlib.Core.Path.{_≡_, refl}
-use mathlib.Core.Bool.{true, _&&_}
+-- What the tests of a record's header, sizes, offsets, end and entries say, and that the code's order of them is the definition's.
+use mathlib.Core.Path.{_≡_, refl, sym, ap}
+use mathlib.Core.Bool.{Bool, true, false, _&&_}
 use mathlib.Core.List.{List}
 use Prim.Native.Nat.{ℕ, zero, suc, _+_, _-_, _*_, _≤_, _<_}
 use native.Mathlib.Nat.{suc-mul, mul-le-mul, mul-le-mul-right}
@@ -8,17 +8,32 @@ use native.Mathlib.Numerals.{sub-one}
 use native.Mathlib.Omega.{arith}
 use lib.Dec.{eqb, leb, ltb}
 use lib.ListN.{length, getD, List·getD-eq-default}
-use borrow.Author.Tests.{ltb-true, leb-true, eqb-true, ne-eqb}
-use Rattle.bits.specs.Ranges.{allTo}
-use Rattle.bits.proofs.Ranges.{last-or, below-or, both, all-at}
+use borrow.Author.Tests.{ltb-true, leb-true, eqb-true, lt-ltb, le-ltb, le-leb, eq-eqb, ne-eqb}
+use Rattle.bits.specs.Ranges.{allBelow}
+use Rattle.bits.proofs.Ranges.{last-or, below-or, both, all-at, all-of}
 use Rattle.bits.proofs.Lists.{length-part}
-use Rattle.profile.specs.Record.{kb, m, t, z, offset, tableSize, table, within, headerRight, offsetDue, lengthRight, rises, sizeRight, shiftRight, tableRight}
-use Rattle.profile.specs.steps.Shape.{shapeRight, Sized}
+use Rattle.profile.specs.Record.{kb, m, t, z, offset, tableSize, table, empty, within, headerRight, rises, sizesRight, offsetDue, offsetsRight, endsRight, shiftRight, tableRight, wellFormed}
+use Rattle.profile.specs.steps.Shape.{frontRight, sizeRight, shapeRight, Sized}
 
 pub within-is : (least most n : ℕ) → within least most n ≡ true → (least ≤ n) × (n ≤ most)
 within-is least most n e =
     let parts = both (leb least n) (leb n most) e in
     (leb-true least n (parts .0), leb-true n most (parts .1))
+
+-- ---- a test is the one that is asked for, however it is written
+
+pub either-way : (a b : Bool) → (a ≡ true → b ≡ true) → (b ≡ true → a ≡ true) → a ≡ b
+either-way true b f g = sym (f refl)
+either-way false true f g = g refl
+either-way false false f g = refl
+
+pub same-test : (r : Bool) (x y : ℕ) → (r ≡ true → x ≡ y) → (r ≡ false → x ≡ y → ⊥) → r ≡ eqb x y
+same-test true x y f g = sym (eq-eqb x y (f refl))
+same-test false x y f g = sym (ne-eqb x y (g refl))
+
+pub less-test : (r : Bool) (x y : ℕ) → (r ≡ true → x < y) → (r ≡ false → y ≤ x) → r ≡ ltb x y
+less-test true x y f g = sym (lt-ltb x y (f refl))
+less-test false x y f g = sym (le-ltb x y (g refl))
 
 -- ---- the header
 
@@ -32,17 +47,17 @@ pub record Header (R : List ℕ) : Type 0 where
   pub t-high : t R ≤ 3
 
 module _ (R : List ℕ) where
-  pub header-is : headerRight R ≡ true → Header R
-  unfolding headerRight
+  pub header-is : frontRight R ≡ true → Header R
+  unfolding frontRight headerRight
   header-is e =
-      let three = both (leb 6 (length R) && within 1 20 (kb R) && within 3 12 (m R)) (within 1 3 (t R)) e in
-      let two = both (leb 6 (length R) && within 1 20 (kb R)) (within 3 12 (m R)) (three .0) in
-      let one = both (leb 6 (length R)) (within 1 20 (kb R)) (two .0) in
-      let k = within-is 1 20 (kb R) (one .1) in
-      let r = within-is 3 12 (m R) (two .1) in
-      let n = within-is 1 3 (t R) (three .1) in
+      let there = both (leb 6 (length R)) (headerRight R) e in
+      let two = both (within 1 20 (kb R) && within 3 12 (m R)) (within 1 3 (t R)) (there .1) in
+      let one = both (within 1 20 (kb R)) (within 3 12 (m R)) (two .0) in
+      let k = within-is 1 20 (kb R) (one .0) in
+      let r = within-is 3 12 (m R) (one .1) in
+      let n = within-is 1 3 (t R) (two .1) in
       record {
-        long = leb-true 6 (length R) (one .0);
+        long = leb-true 6 (length R) (there .0);
         kb-low = k .0;
         kb-high = k .1;
         m-low = r .0;
@@ -53,8 +68,8 @@ module _ (R : List ℕ) where
 
   pub table-most : Header R → m R * (kb R + m R) ≤ 384
   table-most h =
-      let wide : kb R + m R ≤ 32 = omega (arith, h .kb-high, h .m-high) in
-      let all : m R * (kb R + m R) ≤ 12 * 32 = mul-le-mul (h .m-high) wide in
+      let columns : kb R + m R ≤ 32 = omega (arith, h .kb-high, h .m-high) in
+      let all : m R * (kb R + m R) ≤ 12 * 32 = mul-le-mul (h .m-high) columns in
       omega arith
 
   -- ---- the length and the sizes
@@ -65,11 +80,11 @@ module _ (R : List ℕ) where
   rises-later (suc i) n = rw sub-one
 
   -- the record ends with the last table, so every pair is there
-  pub ends : lengthRight R ≡ true → length R ≡ 6 + 4 * t R + t R * tableSize R
-  unfolding lengthRight offsetDue
+  pub ends : endsRight R ≡ true → length R ≡ 6 + 4 * t R + t R * tableSize R
+  unfolding endsRight offsetDue
   ends e = eqb-true (length R) (offsetDue R (t R)) e
 
-  pub pair-there : lengthRight R ≡ true → (i : ℕ) → i < t R → 10 + 4 * i ≤ length R
+  pub pair-there : endsRight R ≡ true → (i : ℕ) → i < t R → 10 + 4 * i ≤ length R
   pair-there e i l = omega (arith, ends e)
 
   pub record Size (i : ℕ) : Type 0 where
@@ -89,7 +104,7 @@ module _ (R : List ℕ) where
 -- ---- all but the entries
 
 pub record Shape (R : List ℕ) : Type 0 where
-  pub right : headerRight R ≡ true
+  pub right : frontRight R ≡ true
   pub header : Header R
   pub pair : (i : ℕ) → i < t R → 10 + 4 * i ≤ length R
   pub size : (i : ℕ) → i < t R → Size R i
@@ -99,8 +114,8 @@ module _ (R : List ℕ) where
   pub shape-is : shapeRight R ≡ true → Shape R
   unfolding shapeRight offsetDue
   shape-is e =
-      let two = both (headerRight R && lengthRight R) (allTo (t R) (sizeRight R)) e in
-      let one = both (headerRight R) (lengthRight R) (two .0) in
+      let two = both (frontRight R && endsRight R) (allBelow (t R) (sizeRight R)) e in
+      let one = both (frontRight R) (endsRight R) (two .0) in
       let size : (i : ℕ) → i < t R → Size R i = λ i l. size-is R i (all-at (t R) (sizeRight R) (two .1) i l) in
       record {
         right = one .0;
@@ -141,19 +156,57 @@ module _ (R : List ℕ) where
     rise i (suc j) l h =
         last-or i j l (λ o. omega (arith, rise i j o (omega arith), rise-one j h)) (λ e. rw e (rise-one j h))
 
+-- ---- the code's order is the definition's: that the first six octets are there follows from where the record ends
+
+module _ (R : List ℕ) where
+  abbrev sized : ℕ → Bool
+  sized i = within 1 81 (z R i) && rises R i
+
+  abbrev placed : ℕ → Bool
+  placed i = eqb (offset R i) (offsetDue R i)
+
+  shaped : headerRight R && sizesRight R && offsetsRight R && endsRight R ≡ true → shapeRight R ≡ true
+  unfolding sizesRight offsetsRight sizeRight frontRight shapeRight
+  shaped e =
+      let three = both (headerRight R && sizesRight R && offsetsRight R) (endsRight R) e in
+      let two = both (headerRight R && sizesRight R) (offsetsRight R) (three .0) in
+      let one = both (headerRight R) (sizesRight R) (two .0) in
+      let long = le-leb 6 (length R) (omega (arith, ends R (three .1))) in
+      let each : (i : ℕ) → i < t R → sizeRight R i ≡ true =
+      λ i l. rw (all-at (t R) sized (one .1) i l) (all-at (t R) placed (two .1) i l) in
+      rw (long, one .0, three .1) (all-of (t R) (sizeRight R) each)
+
+  unshaped : shapeRight R ≡ true → headerRight R && sizesRight R && offsetsRight R && endsRight R ≡ true
+  unfolding sizesRight offsetsRight sizeRight frontRight shapeRight
+  unshaped e =
+      let two = both (frontRight R && endsRight R) (allBelow (t R) (sizeRight R)) e in
+      let one = both (frontRight R) (endsRight R) (two .0) in
+      let header = both (leb 6 (length R)) (headerRight R) (one .0) in
+      let parts : (i : ℕ) → i < t R → (sized i ≡ true) × (placed i ≡ true) =
+      λ i l. both (sized i) (placed i) (all-at (t R) (sizeRight R) (two .1) i l) in
+      let sizes : sizesRight R ≡ true = all-of (t R) sized (λ i l. parts i l .0) in
+      let offsets : offsetsRight R ≡ true = all-of (t R) placed (λ i l. parts i l .1) in
+      rw (header .1, sizes, offsets, one .1)
+
+  pub formed-is : wellFormed R ≡ shapeRight R && allBelow (t R) (tableRight R)
+  unfolding wellFormed
+  formed-is =
+      let shape = headerRight R && sizesRight R && offsetsRight R && endsRight R in
+      ap (λ (b : Bool). b && allBelow (t R) (tableRight R)) (either-way shape (shapeRight R) shaped unshaped)
+
 -- ---- the entries
 
 pub entries-below : (R : List ℕ) (i : ℕ) → 1 ≤ z R i → length (table R i) ≡ tableSize R → tableRight R i ≡ true
-    → (k : ℕ) → (getD (table R i) k 0 ≡ 255 → ⊥) → getD (table R i) k 0 < z R i
+    → (k : ℕ) → (getD (table R i) k 0 ≡ empty → ⊥) → getD (table R i) k 0 < z R i
 unfolding tableRight shiftRight
 entries-below R i low long e k n =
     below-or k (tableSize R)
     (λ l. ltb-true (getD (table R i) k 0) (z R i)
-    (simp (ne-eqb (getD (table R i) k 0) 255 n) at (all-at (tableSize R) (λ j. shiftRight (z R i) (getD (table R i) j 0)) e k l)))
+    (simp (ne-eqb (getD (table R i) k 0) empty n) at (all-at (tableSize R) (λ j. shiftRight (z R i) (getD (table R i) j 0)) e k l)))
     (λ l. omega (arith, List·getD-eq-default (table R i) 0 {n = k} (omega arith)))
 
 -- the test as the code makes it, of a part T of the record
 pub table-test : (R : List ℕ) (i n : ℕ) (T : List ℕ) → T ≡ table R i → n ≡ z R i → length (table R i) ≡ tableSize R
-    → allTo (length T) (λ k. shiftRight n (getD T k 0)) ≡ tableRight R i
+    → allBelow (length T) (λ k. shiftRight n (getD T k 0)) ≡ tableRight R i
 unfolding tableRight
 table-test R i n T e f long = rw (e, f, long)

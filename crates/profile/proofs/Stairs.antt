@@ -1,128 +1,223 @@
--- The test for a staircase says that the table is one, and says so of each; and where its entries stand in the table. Assumes nothing.
-use mathlib.Core.Path.{_≡_, refl, ap, _∙_}
-use mathlib.Core.Bool.{true, not, _&&_}
+-- The definition of a staircase says that the table is one, and says so of each.
+use mathlib.Core.Path.{_≡_, refl, sym, ap, _∙_}
+use mathlib.Core.Bool.{Bool, true, false, cond, not, _&&_, _||_}
 use mathlib.Core.List.{List}
-use Prim.Native.Nat.{ℕ, suc, _+_, _-_, _*_, _<_}
-use native.Mathlib.Nat.{suc-mul, mul-le-mul-right}
-use native.Mathlib.Numerals.{add-one}
+use Prim.Native.Nat.{ℕ, zero, suc, _+_, _-_, _<_}
+use native.Mathlib.Numerals.{sub-one}
 use native.Mathlib.Omega.{arith}
-use lib.Dec.{eqb, leb, ltb}
-use lib.ListN.{getD}
-use borrow.Author.Tests.{ltb-true, leb-true, eqb-true, eqb-false, not-true, lt-ltb, le-leb, eq-eqb, ne-eqb}
-use Rattle.bits.specs.Ranges.{allTo, anyTo, firstTo}
-use Rattle.bits.proofs.Ranges.{equal-or, both, all-at, all-of, any-of, first-some}
-use Rattle.profile.specs.Record.{entry}
-use Rattle.profile.specs.Staircase.{firstDue, nextDue, rowRight, stairsAt, staircase}
-use Rattle.profile.specs.steps.Shape.{nextRight}
+use lib.Dec.{eqb}
+use borrow.Author.Tests.{eqb-true, eqb-false, not-true, not-false, eq-eqb, ne-eqb}
+use Rattle.bits.specs.Ranges.{sumBelow, allBelow}
+use Rattle.bits.proofs.Ranges.{last-or, equal-or, both, all-at, all-of}
+use Rattle.bits.proofs.Sums.{sum-one}
+use Rattle.profile.specs.Record.{entry, empty}
+use Rattle.profile.specs.Staircase.{filled, filledBetween, firstColumn, nextDue, nextColumn, staircase}
 
 -- column kb is filled in row 0, in the last row and in row `middle` between, and there with 0; column kb + j holds 0 in rows j - 1 and j
 pub record Staircase (T : List ℕ) (kb m : ℕ) : Type 0 where
   pub middle : ℕ
   pub after : 0 < middle
   pub before : suc middle < m
-  pub filled : entry T (kb + m) 0 kb ≡ 255 → ⊥
+  pub filled : entry T (kb + m) 0 kb ≡ empty → ⊥
   pub outer : (i : ℕ) → suc i ≡ m → entry T (kb + m) i kb ≡ entry T (kb + m) 0 kb
   pub inner : entry T (kb + m) middle kb ≡ 0
-  pub others : (i : ℕ) → 0 < i → suc i < m → (i ≡ middle → ⊥) → entry T (kb + m) i kb ≡ 255
+  pub others : (i : ℕ) → 0 < i → suc i < m → (i ≡ middle → ⊥) → entry T (kb + m) i kb ≡ empty
   pub upper : (j : ℕ) → suc j < m → entry T (kb + m) j (kb + suc j) ≡ 0
   pub lower : (j : ℕ) → suc j < m → entry T (kb + m) (suc j) (kb + suc j) ≡ 0
-  pub rest : (i j : ℕ) → i < m → suc j < m → (i ≡ j → ⊥) → (i ≡ suc j → ⊥) → entry T (kb + m) i (kb + suc j) ≡ 255
+  pub rest : (i j : ℕ) → i < m → suc j < m → (i ≡ j → ⊥) → (i ≡ suc j → ⊥) → entry T (kb + m) i (kb + suc j) ≡ empty
 
-module _ (T : List ℕ) (kb m : ℕ) where
-  abbrev top : ℕ
-  top = entry T (kb + m) 0 kb
+-- ---- exactly one of the numbers below n
 
-  -- what the test of a row says of its entries
-  module _ (q : ℕ) (e : allTo m (rowRight T kb m q) ≡ true) (i : ℕ) (l : i < m) where
-    row : (entry T (kb + m) i kb ≡ firstDue m top q i) × (allTo (m - 1) (nextRight T kb m i) ≡ true)
-    unfolding rowRight nextRight
-    row =
-        let first = eqb (entry T (kb + m) i kb) (firstDue m top q i) in
-        let parts = both first (allTo (m - 1) (nextRight T kb m i)) (all-at m (rowRight T kb m q) e i l) in
-        (eqb-true (entry T (kb + m) i kb) (firstDue m top q i) (parts .0), parts .1)
+record Only (n : ℕ) (p : ℕ → Bool) : Type 0 where
+  pub at : ℕ
+  pub below : at < n
+  pub holds : p at ≡ true
+  pub others : (k : ℕ) → k < n → (k ≡ at → ⊥) → p k ≡ false
 
-    next : (j : ℕ) → suc j < m → entry T (kb + m) i (kb + suc j) ≡ nextDue (suc j) i
-    unfolding nextRight
-    next j h =
-        eqb-true (entry T (kb + m) i (kb + suc j)) (nextDue (suc j) i) (all-at (m - 1) (nextRight T kb m i) (row .1) j (omega arith))
+module _ (p : ℕ → Bool) where
+  abbrev marked : ℕ → ℕ
+  marked k = cond (p k) 1 0
 
-  found : (q : ℕ) → 0 < q → suc q < m → (top ≡ 255 → ⊥) → allTo m (rowRight T kb m q) ≡ true → Staircase T kb m
-  unfolding firstDue nextDue
-  found q lo hi full e =
+  unmarked : (k : ℕ) → marked k ≡ 0 → p k ≡ false
+  unmarked k e = by-mark (p k) refl
+    where
+      by-mark : (b : Bool) → p k ≡ b → p k ≡ false
+      by-mark true q = absurd (omega (arith, rw q at e))
+      by-mark false q = q
+
+  none : (n : ℕ) → sumBelow n marked ≡ 0 → (k : ℕ) → k < n → p k ≡ false
+  unfolding sumBelow
+  none zero e k l = absurd (omega arith)
+  none (suc n) e k l = last-or k n l (λ o. none n (omega arith) k o) (λ q. rw q (unmarked n (omega arith)))
+
+  -- the last is the one, or one before it
+  by-last : (n : ℕ) (b : Bool) → p n ≡ b → sumBelow n marked + marked n ≡ 1 → (sumBelow n marked ≡ 1 → Only n p) → Only (suc n) p
+  by-last n true q e before =
+      let rest : sumBelow n marked ≡ 0 = omega (arith, rw q at e) in
+      record { at = n; below = omega arith; holds = q; others = λ k l d. none n rest k (omega arith) }
+  by-last n false q e before =
+      let o = before (omega (arith, rw q at e)) in
       record {
-        middle = q;
-        after = lo;
-        before = hi;
-        filled = full;
-        outer = λ i h. row q e i (omega arith) .0 ∙ simp (ne-eqb i q (λ d. omega arith), ne-eqb i 0 (λ d. omega arith), eq-eqb (suc i) m h);
-        inner = row q e q (omega arith) .0 ∙ simp (eq-eqb q q refl);
-        others = λ i l h n. row q e i (omega arith) .0 ∙ simp (ne-eqb i q n, ne-eqb i 0 (λ d. omega arith), ne-eqb (suc i) m (λ d. omega arith));
-        upper = λ j h. next q e j (omega arith) j h ∙ simp (eq-eqb (suc j) (suc j) refl);
-        lower = λ j h. next q e (suc j) h j h ∙ simp (ne-eqb (suc (suc j)) (suc j) (λ d. omega arith), eq-eqb (suc j) (suc j) refl);
-        rest = λ i j l h n o. next q e i l j h ∙ simp (ne-eqb (suc i) (suc j) (λ d. n (omega arith)), ne-eqb i (suc j) o);
+        at = o .at;
+        below = omega (arith, o .below);
+        holds = o .holds;
+        others = λ k l d. last-or k n l (λ h. o .others k h d) (λ r. rw r q);
       }
 
+  only : (n : ℕ) → sumBelow n marked ≡ 1 → Only n p
+  unfolding sumBelow
+  only zero e = absurd (omega arith)
+  only (suc n) e = by-last n (p n) refl e (only n)
+
+  only-one : (n : ℕ) → Only n p → sumBelow n marked ≡ 1
+  only-one n o = sum-one n marked (o .at) (o .below) (λ k l d. rw (o .others k l d)) ∙ rw (o .holds)
+
+-- ---- filled, and empty
+
+filled-is : (e : ℕ) → filled e ≡ true → e ≡ empty → ⊥
+unfolding filled
+filled-is e f = eqb-false e empty (not-true (eqb e empty) f)
+
+unfilled-is : (e : ℕ) → filled e ≡ false → e ≡ empty
+unfolding filled
+unfilled-is e f = eqb-true e empty (not-false (eqb e empty) f)
+
+is-filled : (e : ℕ) → (e ≡ empty → ⊥) → filled e ≡ true
+unfolding filled
+is-filled e n = rw (ne-eqb e empty n)
+
+is-unfilled : (e : ℕ) → e ≡ empty → filled e ≡ false
+unfolding filled
+is-unfilled e q = rw (eq-eqb e empty q)
+
+-- ---- column kb
+
+record FirstColumn (m : ℕ) (C : ℕ → ℕ) : Type 0 where
+  pub only : Only (m - 2) (λ i. filled (C (suc i)))
+  pub full : C 0 ≡ empty → ⊥
+  pub outer : C 0 ≡ C (m - 1)
+  pub inner : (i : ℕ) → i < m - 2 → filled (C (suc i)) ≡ true → C (suc i) ≡ 0
+
+module _ (m : ℕ) (C : ℕ → ℕ) where
+  abbrev held : ℕ → Bool
+  held i = not (filled (C (suc i))) || eqb (C (suc i)) 0
+
+  first-is : firstColumn m C ≡ true → FirstColumn m C
+  unfolding firstColumn filledBetween
+  first-is e =
+      let four = both (filled (C 0) && filled (C (m - 1)) && eqb (filledBetween m C) 1 && eqb (C 0) (C (m - 1))) (allBelow (m - 2) held) e in
+      let three = both (filled (C 0) && filled (C (m - 1)) && eqb (filledBetween m C) 1) (eqb (C 0) (C (m - 1))) (four .0) in
+      let two = both (filled (C 0) && filled (C (m - 1))) (eqb (filledBetween m C) 1) (three .0) in
+      let one = both (filled (C 0)) (filled (C (m - 1))) (two .0) in
+      record {
+        only = only (λ i. filled (C (suc i))) (m - 2) (eqb-true (filledBetween m C) 1 (two .1));
+        full = filled-is (C 0) (one .0);
+        outer = eqb-true (C 0) (C (m - 1)) (three .1);
+        inner = λ i l f. eqb-true (C (suc i)) 0 (rw f at (all-at (m - 2) held (four .1) i l));
+      }
+
+  is-first : FirstColumn m C → firstColumn m C ≡ true
+  unfolding firstColumn filledBetween
+  is-first f =
+      let top = is-filled (C 0) (f .full) in
+      let last = is-filled (C (m - 1)) (λ q. f .full (f .outer ∙ q)) in
+      let count = eq-eqb (filledBetween m C) 1 (only-one (λ i. filled (C (suc i))) (m - 2) (f .only)) in
+      let outer = eq-eqb (C 0) (C (m - 1)) (f .outer) in
+      let each : (i : ℕ) → i < m - 2 → held i ≡ true = λ i l. by-fill i l (filled (C (suc i))) refl in
+      rw (top, last, count, outer) (all-of (m - 2) held each)
+    where
+      by-fill : (i : ℕ) → i < m - 2 → (b : Bool) → filled (C (suc i)) ≡ b → held i ≡ true
+      by-fill i l true q = rw (q, eq-eqb (C (suc i)) 0 (f .inner i l q))
+      by-fill i l false q = rw q
+
+-- ---- column kb + j + 1
+
+module _ (j : ℕ) where
+  pub due-upper : nextDue (suc j) j ≡ 0
+  unfolding nextDue
+  due-upper = simp (sub-one, eq-eqb j j refl)
+
+  pub due-lower : nextDue (suc j) (suc j) ≡ 0
+  unfolding nextDue
+  due-lower = simp (sub-one, ne-eqb (suc j) j (λ d. omega arith), eq-eqb (suc j) (suc j) refl)
+
+  pub due-rest : (i : ℕ) → (i ≡ j → ⊥) → (i ≡ suc j → ⊥) → nextDue (suc j) i ≡ empty
+  unfolding nextDue
+  due-rest i n o = simp (sub-one, ne-eqb i j n, ne-eqb i (suc j) o)
+
+module _ (m j : ℕ) (C : ℕ → ℕ) where
+  next-is : nextColumn m j C ≡ true → (i : ℕ) → i < m → C i ≡ nextDue j i
+  unfolding nextColumn
+  next-is e i l = eqb-true (C i) (nextDue j i) (all-at m (λ row. eqb (C row) (nextDue j row)) e i l)
+
+  is-next : ((i : ℕ) → i < m → C i ≡ nextDue j i) → nextColumn m j C ≡ true
+  unfolding nextColumn
+  is-next h = all-of m (λ row. eqb (C row) (nextDue j row)) (λ i l. eq-eqb (C i) (nextDue j i) (h i l))
+
+-- ---- the table
+
+module _ (T : List ℕ) (kb m : ℕ) where
+  abbrev pub column : ℕ → ℕ → ℕ
+  column j row = entry T (kb + m) row j
+
+  others : (middle : ℕ) → ((k : ℕ) → k < m - 2 → (suc k ≡ middle → ⊥) → filled (column kb (suc k)) ≡ false)
+      → (i : ℕ) → 0 < i → suc i < m → (i ≡ middle → ⊥) → column kb i ≡ empty
+  others middle h zero l o n = absurd (omega arith)
+  others middle h (suc k) l o n = unfilled-is (column kb (suc k)) (h k (omega arith) n)
+
   pub staircase-is : staircase T kb m ≡ true → Staircase T kb m
-  unfolding staircase stairsAt
+  unfolding staircase
   staircase-is e =
-      let parts = both (not (eqb top 255)) (anyTo m (stairsAt T kb m)) e in
-      let f = first-some m (stairsAt T kb m) (parts .1) in
-      let q = firstTo m (stairsAt T kb m) in
-      let two = both (leb 1 q && ltb (suc q) m) (allTo m (rowRight T kb m q)) (f .holds) in
-      let one = both (leb 1 q) (ltb (suc q) m) (two .0) in
-      found q (leb-true 1 q (one .0)) (ltb-true (suc q) m (one .1)) (eqb-false top 255 (not-true (eqb top 255) (parts .0))) (two .1)
+      let right : ℕ → Bool = λ i. nextColumn m (suc i) (column (kb + suc i)) in
+      let parts = both (firstColumn m (column kb)) (allBelow (m - 1) right) e in
+      let f = first-is m (column kb) (parts .0) in
+      let o = f .only in
+      let next : (i j : ℕ) → i < m → suc j < m → column (kb + suc j) i ≡ nextDue (suc j) i =
+      λ i j l h. next-is m (suc j) (column (kb + suc j)) (all-at (m - 1) right (parts .1) j (omega arith)) i l in
+      record {
+        middle = suc (o .at);
+        after = omega arith;
+        before = omega (arith, o .below);
+        filled = f .full;
+        outer = λ i h. ap (column kb) (omega arith) ∙ sym (f .outer);
+        inner = f .inner (o .at) (o .below) (o .holds);
+        others = others (suc (o .at)) (λ k l n. o .others k l (λ q. n (ap suc q)));
+        upper = λ j h. next j j (omega arith) h ∙ due-upper j;
+        lower = λ j h. next (suc j) j h h ∙ due-lower j;
+        rest = λ i j l h n p. next i j l h ∙ due-rest j i n p;
+      }
 
   module _ (s : Staircase T kb m) where
-    first-due : (i : ℕ) → i < m → entry T (kb + m) i kb ≡ firstDue m top (s .middle) i
-    unfolding firstDue
-    first-due i l =
-        equal-or i (s .middle) (λ e. ap (λ (x : ℕ). entry T (kb + m) x kb) e ∙ s .inner ∙ simp (eq-eqb i (s .middle) e))
-        (λ n. equal-or i 0 (λ e. ap (λ (x : ℕ). entry T (kb + m) x kb) e ∙ simp (ne-eqb i (s .middle) n, eq-eqb i 0 e))
-        (λ o. equal-or (suc i) m (λ e. s .outer i e ∙ simp (ne-eqb i (s .middle) n, ne-eqb i 0 o, eq-eqb (suc i) m e))
-        (λ r. s .others i (omega arith) (omega arith) n ∙ simp (ne-eqb i (s .middle) n, ne-eqb i 0 o, ne-eqb (suc i) m r))))
+    middle-only : Only (m - 2) (λ i. filled (column kb (suc i)))
+    middle-only =
+        let at : suc (s .middle - 1) ≡ s .middle = omega (arith, s .after) in
+        let some : column kb (suc (s .middle - 1)) ≡ 0 = ap (column kb) at ∙ s .inner in
+        record {
+          at = s .middle - 1;
+          below = omega (arith, s .after, s .before);
+          holds = is-filled (column kb (suc (s .middle - 1))) (λ q. omega arith);
+          others = λ k l d. is-unfilled (column kb (suc k)) (s .others (suc k) (omega arith) (omega arith) (λ q. d (omega arith)));
+        }
 
-    next-due : (i j : ℕ) → i < m → suc j < m → entry T (kb + m) i (kb + suc j) ≡ nextDue (suc j) i
-    unfolding nextDue
+    first : FirstColumn m (column kb)
+    first =
+        record {
+          only = middle-only;
+          full = s .filled;
+          outer = sym (s .outer (m - 1) (omega (arith, s .before)));
+          inner = λ i l f. equal-or (suc i) (s .middle) (λ q. ap (column kb) q ∙ s .inner)
+              (λ n. absurd (filled-is (column kb (suc i)) f (s .others (suc i) (omega arith) (omega arith) n)));
+        }
+
+    pub next-due : (i j : ℕ) → i < m → suc j < m → column (kb + suc j) i ≡ nextDue (suc j) i
     next-due i j l h =
-        equal-or i j (λ e. ap (λ (x : ℕ). entry T (kb + m) x (kb + suc j)) e ∙ s .upper j h ∙ simp (eq-eqb (suc i) (suc j) (ap suc e)))
-        (λ n. equal-or i (suc j)
-        (λ e. ap (λ (x : ℕ). entry T (kb + m) x (kb + suc j)) e ∙ s .lower j h ∙ simp (ne-eqb (suc i) (suc j) (λ d. n (omega arith)), eq-eqb i (suc j) e))
-        (λ o. s .rest i j l h n o ∙ simp (ne-eqb (suc i) (suc j) (λ d. n (omega arith)), ne-eqb i (suc j) o)))
+        equal-or i j (λ q. ap (column (kb + suc j)) q ∙ s .upper j h ∙ sym (due-upper j) ∙ ap (nextDue (suc j)) (sym q))
+        (λ n. equal-or i (suc j) (λ q. ap (column (kb + suc j)) q ∙ s .lower j h ∙ sym (due-lower j) ∙ ap (nextDue (suc j)) (sym q))
+        (λ o. s .rest i j l h n o ∙ sym (due-rest j i n o)))
 
     pub is-staircase : staircase T kb m ≡ true
-    unfolding staircase stairsAt rowRight nextRight
+    unfolding staircase
     is-staircase =
-        let nexts : (i : ℕ) → i < m → allTo (m - 1) (nextRight T kb m i) ≡ true =
-        λ i l. all-of (m - 1) (nextRight T kb m i) (λ j h. eq-eqb _ _ (next-due i j l (omega arith))) in
-        let rows : (i : ℕ) → i < m → rowRight T kb m (s .middle) i ≡ true =
-        λ i l. rw (eq-eqb (entry T (kb + m) i kb) (firstDue m top (s .middle) i) (first-due i l)) (nexts i l) in
-        rw (ne-eqb top 255 (s .filled))
-        (any-of m (stairsAt T kb m) (s .middle) (omega (arith, s .before))
-        (rw (le-leb 1 (s .middle) (s .after), lt-ltb (suc (s .middle)) m (s .before)) (all-of m (rowRight T kb m (s .middle)) rows)))
-
--- ---- where an entry stands
-
-pub entry-top : (T : List ℕ) (wide j : ℕ) → entry T wide 0 j ≡ getD T j 0
-unfolding entry
-entry-top T wide j = ap (λ (x : ℕ). getD T x 0) (omega arith)
-
-entry-place : (T : List ℕ) (wide i j : ℕ) → entry T wide i j ≡ getD T (i * wide + j) 0
-unfolding entry
-entry-place T wide i j = refl
-
-pub row-inside : (kb m i j : ℕ) → i < m → j < kb + m → i * (kb + m) + j < m * (kb + m)
-row-inside kb m i j l h = omega (arith, suc-mul i (kb + m), mul-le-mul-right {m = suc i} {n = m} (kb + m) l)
-
--- the tests as the code makes them: by places of the table
-module _ (T : List ℕ) (kb m row : ℕ) where
-  pub next-at : (j : ℕ) → nextRight T kb m row j ≡ eqb (getD T (row * (kb + m) + kb + 1 + j) 0) (nextDue (j + 1) row)
-  unfolding nextRight entry
-  next-at j =
-      let place : row * (kb + m) + (kb + suc j) ≡ row * (kb + m) + kb + 1 + j = omega arith in
-      rw (place, add-one j)
-
-  pub row-at : (middle : ℕ)
-      → rowRight T kb m middle row
-      ≡ eqb (getD T (row * (kb + m) + kb) 0) (firstDue m (getD T kb 0) middle row) && allTo (m - 1) (nextRight T kb m row)
-  unfolding rowRight nextRight
-  row-at middle = rw (entry-top T (kb + m) kb, entry-place T (kb + m) row kb)
+        let right : ℕ → Bool = λ i. nextColumn m (suc i) (column (kb + suc i)) in
+        rw (is-first m (column kb) first)
+        (all-of (m - 1) right (λ j l. is-next m (suc j) (column (kb + suc j)) (λ i h. next-due i j h (omega arith))))

@@ -3,12 +3,9 @@ use mathlib.Core.Bool.{cond}
 use mathlib.Core.List.{List}
 use Prim.Native.Nat.{ℕ, _+_, _-_, _*_, _/_, _%_}
 use lib.Dec.{leb, ltb}
-use Rattle.bits.specs.Ranges.{firstTo}
+use Rattle.bits.specs.Counts.{ceil}
+use Rattle.bits.specs.Ranges.{firstBelow}
 use Rattle.profile.specs.Record.{kb, t, z}
-
--- a / b, rounded up
-unfoldable pub ceil : ℕ → ℕ → ℕ
-ceil a b = (a + (b - 1)) / b
 
 -- 1. "A is 8 times the octets .. Append the 24 checksum bits of gCRC24A; B = A + 24"
 unfoldable pub blockBits : ℕ → ℕ
@@ -27,15 +24,15 @@ unfoldable pub ownBits : ℕ → ℕ → ℕ → ℕ
 ownBits b c r = cond (ltb r (b % c)) (ceil b c) (b / c)
 
 -- 3. "the smallest z with kb·z ≥ ceil(B/C)": which of the record's sizes it is; they rise, so the first that is large enough
-unfoldable pub whichSizeFor : List ℕ → ℕ → ℕ
-whichSizeFor R need = firstTo (t R) (λ i. leb need (kb R * z R i))
+unfoldable pub sizeIndexFor : List ℕ → ℕ → ℕ
+sizeIndexFor R need = firstBelow (t R) (λ i. leb need (kb R * z R i))
 
-unfoldable pub whichSize : List ℕ → ℕ → ℕ
-whichSize R b = whichSizeFor R (ceil b (blocks R b))
+unfoldable pub sizeIndex : List ℕ → ℕ → ℕ
+sizeIndex R b = sizeIndexFor R (ceil b (blocks R b))
 
 -- "K = kb·z .. one K for all blocks"
 unfoldable pub places : List ℕ → ℕ → ℕ
-places R b = kb R * z R (whichSize R b)
+places R b = kb R * z R (sizeIndex R b)
 
 -- "Places past a block's own bits, at its end, are filler"
 unfoldable pub filler : List ℕ → ℕ → ℕ → ℕ

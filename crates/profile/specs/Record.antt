@@ -5,7 +5,7 @@ use Prim.Native.Nat.{ℕ, zero, suc, _+_, _*_}
 use lib.Dec.{eqb, leb, ltb}
 use lib.ListN.{length, getD, take, drop}
 use Rattle.bits.specs.Bits.{numberAt}
-use Rattle.bits.specs.Ranges.{allTo}
+use Rattle.bits.specs.Ranges.{allBelow}
 
 -- ---- "kb (1 to 20), m (3 to 12), t (1 to 3); then t pairs of z (1 to 81, strictly rising) and offset; then t tables"
 
@@ -24,46 +24,56 @@ z R i = numberAt R (6 + 4 * i)
 unfoldable pub offset : List ℕ → ℕ → ℕ
 offset R i = numberAt R (8 + 4 * i)
 
--- "A table is m rows of kb+m octets"
+-- "A table is m rows of kb+m octets: 255 for empty, else a shift below its z"
 unfoldable pub tableSize : List ℕ → ℕ
 tableSize R = m R * (kb R + m R)
 
 unfoldable pub table : List ℕ → ℕ → List ℕ
 table R i = take (tableSize R) (drop (offset R i) R)
 
--- the entry in a row and a column of a table T that has `wide` columns
+-- the entry in a row and a column of a table T that has `columns` columns
 unfoldable pub entry : List ℕ → ℕ → ℕ → ℕ → ℕ
-entry T wide row column = getD T (row * wide + column) 0
+entry T columns row column = getD T (row * columns + column) 0
+
+-- what it holds where there is no shift
+abbrev pub empty : ℕ
+empty = 255
 
 -- ---- well formed, part by part
 
+-- "1 to 20" and the like
 abbrev pub within : ℕ → ℕ → ℕ → Bool
 within least most n = leb least n && leb n most
 
+-- "kb (1 to 20), m (3 to 12), t (1 to 3)"
 unfoldable pub headerRight : List ℕ → Bool
-headerRight R = leb 6 (length R) && within 1 20 (kb R) && within 3 12 (m R) && within 1 3 (t R)
+headerRight R = within 1 20 (kb R) && within 3 12 (m R) && within 1 3 (t R)
+
+-- "z (1 to 81, strictly rising)"
+unfoldable pub rises : List ℕ → ℕ → Bool
+rises R zero = true
+rises R (suc i) = ltb (z R i) (z R (suc i))
+
+unfoldable pub sizesRight : List ℕ → Bool
+sizesRight R = allBelow (t R) (λ i. within 1 81 (z R i) && rises R i)
 
 -- "The first offset is 6 + 4t, each next one m·(kb+m) further"
 unfoldable pub offsetDue : List ℕ → ℕ → ℕ
 offsetDue R i = 6 + 4 * t R + i * tableSize R
 
--- "and the record ends with the last table"
-unfoldable pub lengthRight : List ℕ → Bool
-lengthRight R = eqb (length R) (offsetDue R (t R))
+unfoldable pub offsetsRight : List ℕ → Bool
+offsetsRight R = allBelow (t R) (λ i. eqb (offset R i) (offsetDue R i))
 
-unfoldable pub rises : List ℕ → ℕ → Bool
-rises R zero = true
-rises R (suc i) = ltb (z R i) (z R (suc i))
-
-unfoldable pub sizeRight : List ℕ → ℕ → Bool
-sizeRight R i = within 1 81 (z R i) && rises R i && eqb (offset R i) (offsetDue R i)
+-- "and the record ends with the last table": where a table after the last would start
+unfoldable pub endsRight : List ℕ → Bool
+endsRight R = eqb (length R) (offsetDue R (t R))
 
 -- "255 for empty, else a shift below its z"
 unfoldable pub shiftRight : ℕ → ℕ → Bool
-shiftRight z' s = eqb s 255 || ltb s z'
+shiftRight z' s = eqb s empty || ltb s z'
 
 unfoldable pub tableRight : List ℕ → ℕ → Bool
-tableRight R i = allTo (tableSize R) (λ k. shiftRight (z R i) (getD (table R i) k 0))
+tableRight R i = allBelow (tableSize R) (λ k. shiftRight (z R i) (getD (table R i) k 0))
 
 unfoldable pub wellFormed : List ℕ → Bool
-wellFormed R = headerRight R && lengthRight R && allTo (t R) (sizeRight R) && allTo (t R) (tableRight R)
+wellFormed R = headerRight R && sizesRight R && offsetsRight R && endsRight R && allBelow (t R) (tableRight R)

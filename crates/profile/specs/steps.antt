@@ -1,3 +1,3 @@
 -- What inner contracts cite; no reader of the promises needs it.
 pub mod Shape
-pub mod Cutting
+pub mod Walk

@@ -5,9 +5,9 @@ use bits::number::DONE;
 ghost use mathlib.Core.Path.{_≡_};
 ghost use Prim.Native.Nat.{_≤_, _<_};
 ghost use Rattle.profile.specs.Record.{t};
-ghost use Rattle.profile.specs.Plan.{ceil, kmax, blocks, whichSizeFor};
-ghost use Rattle.profile.specs.Promises.{judged};
-ghost use Rattle.profile.specs.steps.Cutting.{refusal, cutting};
+ghost use Rattle.bits.specs.Counts.{ceil};
+ghost use Rattle.profile.specs.Plan.{kmax, blocks, sizeIndexFor};
+ghost use Rattle.profile.specs.Promises.{judged, cutting, refusal};
 
 // a / b, rounded up.
 pub fn ceil(a: usize, b: usize) -> usize
@@ -27,9 +27,9 @@ pub fn kmax(profile: &[u8]) -> usize
 }
 
 // The first of the sizes, and so the smallest, that gives a block this many places. The last gives Kmax.
-fn size_for(profile: &[u8], need: usize) -> usize
+fn index_for(profile: &[u8], need: usize) -> usize
     requires { ⌜ judged (now profile) ≡ 0 ⌝ }
-    ensures { λ r. ⌜ (r ≡ whichSizeFor (now (profile .entry)) need) × (need ≤ kmax (now (profile .entry)) → r < t (now (profile .entry))) ⌝ }
+    ensures { λ r. ⌜ (r ≡ sizeIndexFor (now (profile .entry)) need) × (need ≤ kmax (now (profile .entry)) → r < t (now (profile .entry))) ⌝ }
 {
     let kb = inner::kb(profile);
     let t = inner::t(profile);
@@ -54,18 +54,18 @@ pub fn refused(number: u32) -> Plan
         blocks: 0,
         places: 0,
         z: 0,
-        size: 0,
+        index: 0,
     }
 }
 
 // The plan of B bits in C blocks, which are `count`; `most` is Kmax.
-pub fn planned(profile: &[u8], bits: usize, most: usize, count: usize) -> Plan
+pub fn cutting(profile: &[u8], bits: usize, most: usize, count: usize) -> Plan
     requires { ⌜ (judged (now profile) ≡ 0) × (0 < bits) × (bits ≤ 16408) × (most ≡ kmax (now profile)) × (count ≡ blocks (now profile) bits) × (count ≤ 64) ⌝ }
     ensures { λ r. ⌜ r ≡ cutting (now (profile .entry)) bits ⌝ }
 {
     let need = ceil(bits, count);
-    let size = size_for(profile, need);
-    let z = inner::z(profile, size);
+    let index = index_for(profile, need);
+    let z = inner::z(profile, index);
     let places = inner::kb(profile) * z;
     Plan {
         number: DONE,
@@ -74,6 +74,6 @@ pub fn planned(profile: &[u8], bits: usize, most: usize, count: usize) -> Plan
         blocks: count,
         places,
         z,
-        size,
+        index,
     }
 }

@@ -1,13 +1,13 @@
 // Whether a profile record is well formed (document 01, "Shelf and profile records"), tested from the front, so that what is read is there.
+use crate::inner::EMPTY;
 use crate::parts;
-use crate::parts::EMPTY;
 ghost use mathlib.Core.Path.{_≡_};
 ghost use mathlib.Core.Bool.{true, _&&_};
 ghost use Prim.Native.Nat.{_+_, _*_, _≤_, _<_};
 ghost use lib.ListN.{length, getD};
-ghost use Rattle.bits.specs.Ranges.{allTo};
-ghost use Rattle.profile.specs.Record.{t, within, headerRight, lengthRight, rises, sizeRight, shiftRight, tableRight};
-ghost use Rattle.profile.specs.steps.Shape.{shapeRight};
+ghost use Rattle.bits.specs.Ranges.{allBelow};
+ghost use Rattle.profile.specs.Record.{t, within, rises, endsRight, shiftRight, tableRight};
+ghost use Rattle.profile.specs.steps.Shape.{frontRight, sizeRight, shapeRight};
 
 pub fn is_within(least: usize, most: usize, n: usize) -> bool
     ensures { λ r. ⌜ r ≡ within least most n ⌝ }
@@ -31,7 +31,7 @@ fn ranges_right(kb: usize, m: usize, t: usize) -> bool
 }
 
 fn header_right(profile: &[u8]) -> bool
-    ensures { λ r. ⌜ r ≡ headerRight (now (profile .entry)) ⌝ }
+    ensures { λ r. ⌜ r ≡ frontRight (now (profile .entry)) ⌝ }
 {
     if profile.len() < 6 {
         return false;
@@ -39,9 +39,9 @@ fn header_right(profile: &[u8]) -> bool
     ranges_right(parts::kb(profile), parts::m(profile), parts::t(profile))
 }
 
-fn length_right(profile: &[u8]) -> bool
-    requires { ⌜ headerRight (now profile) ≡ true ⌝ }
-    ensures { λ r. ⌜ r ≡ lengthRight (now (profile .entry)) ⌝ }
+fn ends_right(profile: &[u8]) -> bool
+    requires { ⌜ frontRight (now profile) ≡ true ⌝ }
+    ensures { λ r. ⌜ r ≡ endsRight (now (profile .entry)) ⌝ }
 {
     let end = parts::offset_due(profile, parts::t(profile));
     profile.len() == end
@@ -54,11 +54,13 @@ fn is_rising(profile: &[u8], i: usize) -> bool
     if i == 0 {
         return true;
     }
-    parts::z(profile, i - 1) < parts::z(profile, i)
+    let before = parts::z(profile, i - 1);
+    let here = parts::z(profile, i);
+    before < here
 }
 
 fn size_right(profile: &[u8], i: usize) -> bool
-    requires { ⌜ (headerRight (now profile) ≡ true) × (10 + 4 * i ≤ length (now profile)) × (i ≤ 3) ⌝ }
+    requires { ⌜ (frontRight (now profile) ≡ true) × (10 + 4 * i ≤ length (now profile)) × (i ≤ 3) ⌝ }
     ensures { λ r. ⌜ r ≡ sizeRight (now (profile .entry)) i ⌝ }
 {
     if !is_within(1, 81, parts::z(profile, i)) {
@@ -71,8 +73,8 @@ fn size_right(profile: &[u8], i: usize) -> bool
 }
 
 fn sizes_right(profile: &[u8]) -> bool
-    requires { ⌜ (headerRight (now profile) ≡ true) × (lengthRight (now profile) ≡ true) ⌝ }
-    ensures { λ r. ⌜ r ≡ allTo (t (now (profile .entry))) (sizeRight (now (profile .entry))) ⌝ }
+    requires { ⌜ (frontRight (now profile) ≡ true) × (endsRight (now profile) ≡ true) ⌝ }
+    ensures { λ r. ⌜ r ≡ allBelow (t (now (profile .entry))) (sizeRight (now (profile .entry))) ⌝ }
 {
     let t = parts::t(profile);
     let mut i = 0;
@@ -92,7 +94,7 @@ pub fn shape_right(profile: &[u8]) -> bool
     if !header_right(profile) {
         return false;
     }
-    if !length_right(profile) {
+    if !ends_right(profile) {
         return false;
     }
     sizes_right(profile)
@@ -104,11 +106,11 @@ fn shift_right(z: usize, s: u8) -> bool
     if s == EMPTY {
         return true;
     }
-    bits::inner::wide(s) < z
+    bits::inner::to_usize(s) < z
 }
 
 fn shifts_right(z: usize, table: &[u8]) -> bool
-    ensures { λ r. ⌜ r ≡ allTo (length (now (table .entry))) (λ k. shiftRight z (getD (now (table .entry)) k 0)) ⌝ }
+    ensures { λ r. ⌜ r ≡ allBelow (length (now (table .entry))) (λ k. shiftRight z (getD (now (table .entry)) k 0)) ⌝ }
 {
     let mut k = 0;
     while k < table.len() {
@@ -130,7 +132,7 @@ fn table_right(profile: &[u8], i: usize) -> bool
 // The entries of every table.
 pub fn tables_right(profile: &[u8]) -> bool
     requires { ⌜ shapeRight (now profile) ≡ true ⌝ }
-    ensures { λ r. ⌜ r ≡ allTo (t (now (profile .entry))) (tableRight (now (profile .entry))) ⌝ }
+    ensures { λ r. ⌜ r ≡ allBelow (t (now (profile .entry))) (tableRight (now (profile .entry))) ⌝ }
 {
     let t = parts::t(profile);
     let mut i = 0;

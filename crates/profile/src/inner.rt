@@ -8,10 +8,13 @@ use bits::number::TOO_MANY_BLOCKS;
 ghost use mathlib.Core.Path.{_≡_};
 ghost use Prim.Native.Nat.{_≤_, _<_};
 ghost use lib.Dec.{eqb};
-ghost use Rattle.bits.specs.Ranges.{firstTo};
+ghost use Rattle.bits.specs.Ranges.{firstBelow};
 ghost use Rattle.profile.specs.Record.{kb, m, t, z, table};
 ghost use Rattle.profile.specs.Plan.{ownBits};
-ghost use Rattle.profile.specs.Promises.{judged, Planned};
+ghost use Rattle.profile.specs.Promises.{judged, planned};
+
+// An entry that holds no shift: "255 for empty".
+pub const EMPTY: u8 = 255;
 
 pub fn kb(profile: &[u8]) -> usize
     requires { ⌜ judged (now profile) ≡ 0 ⌝ }
@@ -49,9 +52,9 @@ pub fn table(profile: &[u8], i: usize) -> &[u8]
 }
 
 // Which of the sizes a z is, and t where the profile has no such z.
-pub fn size_of(profile: &[u8], wanted: usize) -> usize
+pub fn index_of(profile: &[u8], wanted: usize) -> usize
     requires { ⌜ judged (now profile) ≡ 0 ⌝ }
-    ensures { λ r. ⌜ r ≡ firstTo (t (now (profile .entry))) (λ i. eqb (z (now (profile .entry)) i) wanted) ⌝ }
+    ensures { λ r. ⌜ r ≡ firstBelow (t (now (profile .entry))) (λ i. eqb (z (now (profile .entry)) i) wanted) ⌝ }
 {
     let t = t(profile);
     let mut i = 0;
@@ -80,7 +83,7 @@ pub fn own_bits(bits: usize, blocks: usize, r: usize) -> usize
 // How a block of so many octets is cut by a profile that was judged already.
 pub fn plan_accepted(profile: &[u8], octets: usize) -> Plan
     requires { ⌜ judged (now profile) ≡ 0 ⌝ }
-    ensures { λ r. ⌜ Planned (now (profile .entry)) octets r ⌝ }
+    ensures { λ r. ⌜ r ≡ planned (now (profile .entry)) octets ⌝ }
 {
     if !form::is_within(1, 2048, octets) {
         return cut::refused(BLOCK_LENGTH);
@@ -91,5 +94,5 @@ pub fn plan_accepted(profile: &[u8], octets: usize) -> Plan
     if 64 < blocks {
         return cut::refused(TOO_MANY_BLOCKS);
     }
-    cut::planned(profile, bits, kmax, blocks)
+    cut::cutting(profile, bits, kmax, blocks)
 }

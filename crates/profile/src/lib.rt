@@ -9,7 +9,7 @@ use bits::number::DONE;
 use bits::number::NO_STAIRCASE;
 use bits::number::PROFILE;
 ghost use mathlib.Core.Path.{_≡_};
-ghost use Rattle.profile.specs.Promises.{judged, Planned};
+ghost use Rattle.profile.specs.Promises.{judged, planned};
 
 // How a transport block is cut, all 0 with a refusal.
 pub struct Plan {
@@ -23,7 +23,7 @@ pub struct Plan {
     pub places: usize,
     pub z: usize,
     // Which of the record's sizes and tables this z is.
-    pub size: usize,
+    pub index: usize,
 }
 
 // The number of a record. 5 goes before 6 over the whole record: a wrong entry in the last table wins over a first table that is no staircase.
@@ -46,7 +46,7 @@ pub fn judge(profile: &[u8]) -> u32
 
 // How a transport block of so many octets is cut.
 pub fn plan_block(profile: &[u8], octets: usize) -> Plan
-    ensures { λ r. ⌜ Planned (now (profile .entry)) octets r ⌝ }
+    ensures { λ r. ⌜ r ≡ planned (now (profile .entry)) octets ⌝ }
 {
     let number = judge(profile);
     if number != DONE {

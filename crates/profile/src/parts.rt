@@ -3,10 +3,8 @@ ghost use mathlib.Core.Path.{_≡_};
 ghost use mathlib.Core.Bool.{true};
 ghost use Prim.Native.Nat.{_+_, _*_, _≤_, _<_};
 ghost use lib.ListN.{length};
-ghost use Rattle.profile.specs.Record.{kb, m, t, z, offset, tableSize, table, headerRight, offsetDue};
-
-// An entry that holds no shift.
-pub const EMPTY: u8 = 255;
+ghost use Rattle.profile.specs.Record.{kb, m, t, z, offset, tableSize, table, offsetDue};
+ghost use Rattle.profile.specs.steps.Shape.{frontRight, shapeRight, Sized};
 
 // The header's three numbers.
 pub fn kb(profile: &[u8]) -> usize
@@ -47,7 +45,7 @@ pub fn offset(profile: &[u8], i: usize) -> usize
 
 // How many octets a table has.
 pub fn table_size(profile: &[u8]) -> usize
-    requires { ⌜ headerRight (now profile) ≡ true ⌝ }
+    requires { ⌜ frontRight (now profile) ≡ true ⌝ }
     ensures { λ r. ⌜ (r ≡ tableSize (now (profile .entry))) × (r ≤ 384) ⌝ }
 {
     m(profile) * (kb(profile) + m(profile))
@@ -55,15 +53,16 @@ pub fn table_size(profile: &[u8]) -> usize
 
 // Where a table is due to start; asked past the last table, where the record is due to end.
 pub fn offset_due(profile: &[u8], i: usize) -> usize
-    requires { ⌜ (headerRight (now profile) ≡ true) × (i ≤ 3) ⌝ }
+    requires { ⌜ (frontRight (now profile) ≡ true) × (i ≤ 3) ⌝ }
     ensures { λ r. ⌜ r ≡ offsetDue (now (profile .entry)) i ⌝ }
 {
     6 + 4 * t(profile) + i * table_size(profile)
 }
 
+// A table of a record whose tables can be read.
 pub fn table(profile: &[u8], i: usize) -> &[u8]
-    requires { ⌜ (headerRight (now profile) ≡ true) × (10 + 4 * i ≤ length (now profile)) × (offset (now profile) i + tableSize (now profile) ≤ length (now profile)) ⌝ }
-    ensures { λ r. ⌜ now r ≡ table (now (profile .entry)) i ⌝ }
+    requires { ⌜ (shapeRight (now profile) ≡ true) × (i < t (now profile)) ⌝ }
+    ensures { λ r. ⌜ (now r ≡ table (now (profile .entry)) i) × Sized (now r) (kb (now (profile .entry))) (m (now (profile .entry))) ⌝ }
 {
     let start = offset(profile, i);
     let end = start + table_size(profile);

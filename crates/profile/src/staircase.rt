@@ -1,12 +1,13 @@
 // Whether every table is a staircase (document 01, "Shelf and profile records"): each row between is tried as the middle one.
+use crate::inner::EMPTY;
 use crate::parts;
-use crate::parts::EMPTY;
 ghost use mathlib.Core.Path.{_≡_};
 ghost use mathlib.Core.Bool.{true};
 ghost use Prim.Native.Nat.{_-_, _<_, _≤_};
-ghost use Rattle.bits.specs.Ranges.{allTo, anyTo};
-ghost use Rattle.profile.specs.Staircase.{firstDue, nextDue, rowRight, stairsAt, staircase, staircases};
-ghost use Rattle.profile.specs.steps.Shape.{shapeRight, Sized, nextRight};
+ghost use Rattle.bits.specs.Ranges.{allBelow, anyBelow};
+ghost use Rattle.profile.specs.Staircase.{nextDue, staircase, staircases};
+ghost use Rattle.profile.specs.steps.Shape.{shapeRight, Sized};
+ghost use Rattle.profile.specs.steps.Walk.{firstDue, nextRight, rowRight, stairsAt};
 
 // The shift of column kb in the middle row, and of the columns after it in their two rows.
 const MIDDLE: u8 = 0;
@@ -32,7 +33,7 @@ fn first_due(m: usize, outer: u8, middle: usize, row: usize) -> u8
 
 // What the j-th column after it is due to hold.
 fn next_due(j: usize, row: usize) -> u8
-    requires { ⌜ row ≤ 12 ⌝ }
+    requires { ⌜ (row ≤ 12) × (0 < j) ⌝ }
     ensures { λ r. ⌜ r ≡ nextDue j row ⌝ }
 {
     if row + 1 == j {
@@ -47,7 +48,7 @@ fn next_due(j: usize, row: usize) -> u8
 // The columns after column kb, in a row.
 fn next_right(table: &[u8], kb: usize, m: usize, row: usize) -> bool
     requires { ⌜ Sized (now table) kb m × (row < m) ⌝ }
-    ensures { λ r. ⌜ r ≡ allTo (m - 1) (nextRight (now (table .entry)) kb m row) ⌝ }
+    ensures { λ r. ⌜ r ≡ allBelow (m - 1) (nextRight (now (table .entry)) kb m row) ⌝ }
 {
     let first = row * (kb + m) + kb + 1;
     let n = m - 1;
@@ -75,7 +76,7 @@ fn row_right(table: &[u8], kb: usize, m: usize, middle: usize, row: usize) -> bo
 
 fn rows_right(table: &[u8], kb: usize, m: usize, middle: usize) -> bool
     requires { ⌜ Sized (now table) kb m ⌝ }
-    ensures { λ r. ⌜ r ≡ allTo m (rowRight (now (table .entry)) kb m middle) ⌝ }
+    ensures { λ r. ⌜ r ≡ allBelow m (rowRight (now (table .entry)) kb m middle) ⌝ }
 {
     let mut row = 0;
     while row < m {
@@ -102,7 +103,7 @@ fn stairs_at(table: &[u8], kb: usize, m: usize, middle: usize) -> bool
 
 fn some_stairs(table: &[u8], kb: usize, m: usize) -> bool
     requires { ⌜ Sized (now table) kb m ⌝ }
-    ensures { λ r. ⌜ r ≡ anyTo m (stairsAt (now (table .entry)) kb m) ⌝ }
+    ensures { λ r. ⌜ r ≡ anyBelow m (stairsAt (now (table .entry)) kb m) ⌝ }
 {
     let mut middle = 0;
     while middle < m {

@@ -2,6 +2,7 @@
 pub mod answers;
 mod check;
 mod crc;
+mod crcoct;
 mod encode;
 mod hrecv;
 mod hsend;

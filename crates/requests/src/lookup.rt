@@ -1,6 +1,6 @@
 // The request `lookup PRIVATE PUBLIC TENANT PROFILE`: the record that a tenant is given, and where it lies.
 use crate::answers::Answer;
-use shelf::find::Found;
+use shelf::inner::Found;
 use text::faults::Fault;
 use text::forms::short;
 use text::octets::same;
@@ -10,7 +10,7 @@ pub fn answer<'a>(request: &[u8], private: &'a [u8], public: &'a [u8]) -> Answer
     let tenant = short(request, 3);
     let profile = short(request, 4);
     let number = shelf::lookup_number(private, public, tenant, profile);
-    let found = shelf::find::look(private, public, tenant, profile);
+    let found = shelf::inner::look(private, public, tenant, profile);
     let record = shelf::lookup(private, public, tenant, profile);
     if found.number != number {
         return Answer::Error(Fault::Output);

@@ -2,6 +2,7 @@
 use crate::answers::Answer;
 use crate::check;
 use crate::crc;
+use crate::crcoct;
 use crate::encode;
 use crate::hrecv;
 use crate::hsend;
@@ -16,13 +17,14 @@ use text::forms;
 use text::octets::same;
 use text::words;
 
-// `records` and `bits` take the octets that the words of a request hold, a record or a private shelf in
-// the first half of `records` and a public shelf in the second; `lent` is the output of the call that it
-// asks for.
+// `records` and `bits` take the octets that the words of a request hold, a record, packed octets or a
+// private shelf in the first half of `records` and a public shelf in the second; `lent` is the output of
+// the call that it asks for.
 pub fn answer(request: &[u8], records: &mut [u8], bits: &mut [u8], lent: &mut [u8]) -> Answer {
     let form = forms::named(
         words::word(request, 0),
         b"crc WIDTH BITS
+crcoct WIDTH PACKED
 profile RECORD
 plan RECORD OCTETS
 encode RECORD Z PLACES OUTLEN
@@ -67,7 +69,7 @@ fn of_form(
     )
 }
 
-// Where the form has no PUBLIC, that shelf is empty and `record` is RECORD; else `record` is PRIVATE.
+// Where the form has no PUBLIC, that shelf is empty and `record` is RECORD or PACKED; else `record` is PRIVATE.
 fn of_words<'a>(
     request: &[u8],
     record: &'a [u8],
@@ -78,6 +80,9 @@ fn of_words<'a>(
     let name = words::word(request, 0);
     if same(name, b"crc") {
         return crc::answer(request, bits);
+    }
+    if same(name, b"crcoct") {
+        return crcoct::answer(request, record);
     }
     if same(name, b"profile") {
         return judge::answer(record);

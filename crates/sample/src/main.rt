@@ -1,49 +1,39 @@
 // Sends octet 01 by the toy profile of document 01 and prints the 128 radio bits as packed octets in one line.
 use bits::count::CodedBits;
+use bits::number::DONE;
 use libc::STDOUT_FILENO;
-ghost use Prim.Native.Nat.{_+_, _≤_, _<_};
-ghost use lib.ListN.{length};
+ghost use Prim.Native.Nat.{_<_};
 
-// The octet that eight bits from `at` on stand for, highest first.
-fn octet(bits: &[u8], at: usize) -> usize
-    requires { ⌜ at + 8 ≤ length (now bits) ⌝ }
-    ensures { λ r. ⌜ r < 256 ⌝ }
-{
-    let mut x = 0;
-    let mut k = 0;
-    while k < 8 {
-        x = (x * 2 + bits::inner::wide(bits[at + k])) % 256;
-        k += 1;
-    }
-    x
-}
-
-fn digit(x: usize) -> u8
+fn digit(x: u8) -> u8
     requires { ⌜ x < 16 ⌝ }
 {
     if x < 10 {
-        return (x + 48) as u8;
+        return b'0' + x;
     }
-    (x + 55) as u8
+    b'A' + (x - 10)
 }
 
-fn print_octet(x: usize)
-    requires { ⌜ x < 256 ⌝ }
-{
-    let text = [digit(x / 16), digit(x % 16)];
+// The high half of an octet, and the low one.
+fn print_octet(x: u8) {
+    let text = [digit(x >> 4), digit(x & 15)];
     io::write_all(STDOUT_FILENO, &text);
 }
 
-fn print_packed(bits: &[u8]) {
-    let n = bits.len() / 8;
+fn print_octets(octets: &[u8]) {
     let mut i = 0;
-    while i < n {
+    while i < octets.len() {
         if 0 < i {
             io::write_all(STDOUT_FILENO, b" ");
         }
-        print_octet(octet(bits, 8 * i));
+        print_octet(octets[i]);
         i += 1;
     }
+    io::write_all(STDOUT_FILENO, b"\n");
+}
+
+fn print_refused(number: u32) {
+    io::write_all(STDOUT_FILENO, b"refused ");
+    io::print_decimal(STDOUT_FILENO, number as u64);
     io::write_all(STDOUT_FILENO, b"\n");
 }
 
@@ -52,6 +42,12 @@ fn main() {
         b"\x00\x01\x00\x03\x00\x01\x00\x02\x00\x0a\x00\x01\x00\xff\x01\x00\x00\x00\xff\x01\xff\x00";
     let block = b"\x01";
     let mut out = [0u8; 128];
-    coding::send(profile, block, 1, 2, CodedBits(128), &mut out);
-    print_packed(&out);
+    let sent = coding::send(profile, block, 1, 2, CodedBits(128), &mut out);
+    if sent.number != DONE {
+        print_refused(sent.number);
+        return;
+    }
+    let mut octets = [0u8; 16];
+    bits::inner::pack(&out, &mut octets, 16);
+    print_octets(&octets);
 }

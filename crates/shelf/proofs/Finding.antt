@@ -1,4 +1,4 @@
--- What a search says of the entry, and a lookup inside of the record. Assumes nothing.
+-- What a search says of the entry, and a lookup inside of the record.
 use mathlib.Core.Path.{_≡_, refl, sym, _∙_}
 use mathlib.Core.Bool.{Bool, true, false}
 use mathlib.Core.List.{List}
@@ -10,7 +10,7 @@ use borrow.Author.Tests.{lt-ltb, le-ltb, ne-eqb}
 use Rattle.bits.specs.Numbers.{answered}
 use Rattle.bits.proofs.Answers.{when-done, when-refused}
 use Rattle.bits.proofs.Ranges.{first-some, first-none}
-use Rattle.shelf.specs.Shelf.{count, recordAt, wellFormed}
+use Rattle.shelf.specs.Shelf.{count, recordAt, privateShelf, publicShelf}
 use Rattle.shelf.specs.Lookup.{isEntry, has, entryOf, recordOf, lookupNumber, lookupRecord, into, lookupPlace}
 use Rattle.shelf.specs.steps.Finding.{refusal, entryFound, stretchOf, placeOf, Looked}
 use Rattle.shelf.proofs.WellFormed.{Formed, formed-is, record-within}
@@ -43,16 +43,16 @@ module _ (private public : List ℕ) (t p : ℕ) where
     asking : eqb t 0 ≡ false
     asking = ne-eqb t 0 (λ e. omega arith)
 
-    pub private-wrong : wellFormed true private ≡ false → lookupNumber private public t p ≡ 2
+    pub private-wrong : privateShelf private ≡ false → lookupNumber private public t p ≡ 2
     unfolding lookupNumber answered
     private-wrong e = rw (asking, e)
 
-    module _ (own : wellFormed true private ≡ true) where
-      pub public-wrong : wellFormed false public ≡ false → lookupNumber private public t p ≡ 3
+    module _ (own : privateShelf private ≡ true) where
+      pub public-wrong : publicShelf public ≡ false → lookupNumber private public t p ≡ 3
       unfolding lookupNumber answered
       public-wrong e = rw (asking, own, e)
 
-      module _ (shared : wellFormed false public ≡ true) where
+      module _ (shared : publicShelf public ≡ true) where
         pub neither-has : has private t p ≡ false → has public 0 p ≡ false → lookupNumber private public t p ≡ 4
         unfolding lookupNumber answered
         neither-has a b = rw (asking, own, shared, a, b)
@@ -105,7 +105,7 @@ module _ (private public : List ℕ) (t p : ℕ) where
               record { short = omega (arith, here, f .sizes .short); within = here };
         }
 
-  module _ (asked : 1 ≤ t) (own : wellFormed true private ≡ true) (shared : wellFormed false public ≡ true) (k : ℕ) (e : k ≡ entryOf private t p) where
+  module _ (asked : 1 ≤ t) (own : privateShelf private ≡ true) (shared : publicShelf public ≡ true) (k : ℕ) (e : k ≡ entryOf private t p) where
     pub chosen-own : k < count private → Looked private public t p (entryFound true private k)
     chosen-own l =
         let it = has-it private t p k e l in

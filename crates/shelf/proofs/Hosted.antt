@@ -1,56 +1,50 @@
--- The hosted calls by their two ways: the lookup refuses, or the coding part answers on the record. Assumes nothing.
-use mathlib.Core.Path.{_≡_, sym, _∙_}
-use mathlib.Core.List.{List}
-use Prim.Native.Nat.{ℕ, _/_}
-use lib.ListN.{length}
+-- A hosted call by its two ways: the lookup refuses, or the record was found and the coding part answers on it.
+use mathlib.Core.Path.{_≡_, refl, sym, ap, _∙_, subst}
+use mathlib.Core.Bool.{Bool, true, false}
+use mathlib.Core.List.{List, [], _∷_}
+use mathlib.Core.Logic.{_⊎_, ⊎-elim}
+use Prim.Native.Nat.{ℕ, _≤_, _<_}
+use native.Mathlib.Omega.{arith}
+use Rattle.bits.specs.Numbers.{answered}
 use Rattle.bits.specs.declared.number.Written.{Written}
-use Rattle.bits.proofs.Answers.{when-done, when-refused}
-use Rattle.coding.specs.Promises.{sendNumber, Sent, receiveNumber, Received}
+use Rattle.bits.proofs.Ranges.{equal-or}
 use Rattle.shelf.specs.Lookup.{lookupNumber, lookupRecord}
-use Rattle.shelf.specs.Promises.{hostedSendNumber, HostedSent, hostedReceiveNumber, HostedReceived}
+use Rattle.shelf.specs.Promises.{Hosted}
 
-module _ (private public : List ℕ) (t p : ℕ) where
-  -- ---- the lookup refuses with n
+module _ (private public : List ℕ) (t p : ℕ) (promised : List ℕ → Type 0) where
+  -- the lookup refuses with n
+  pub hosted-refused : (out : List ℕ) (n : ℕ) → n ≡ lookupNumber private public t p → (n ≡ 0 → ⊥)
+      → Hosted private public t p promised out (record { number = n; count = 0 }) out
+  hosted-refused out n e h =
+      record { refused = λ h. (ap (λ (k : ℕ). record { number = k; count = 0 }) e, refl); found = λ z. absurd (h (e ∙ z)) }
 
-  module _ (n : ℕ) (found : n ≡ lookupNumber private public t p) (h : n ≡ 0 → ⊥) where
-    refused : lookupNumber private public t p ≡ 0 → ⊥
-    refused z = h (found ∙ z)
+  -- it does not, and R is the record
+  pub hosted-found : (out : List ℕ) (r : Written) (out' : List ℕ) → lookupNumber private public t p ≡ 0
+      → (R : List ℕ) → R ≡ lookupRecord private public t p → promised R → Hosted private public t p promised out r out'
+  hosted-found out r out' z R e s = record { refused = λ n. absurd (n z); found = λ y. subst promised e s }
 
-    module _ (block : List ℕ) (nl qm g : ℕ) (out : List ℕ) where
-      send-number : n ≡ hostedSendNumber private public t p block nl qm g (length out)
-      unfolding hostedSendNumber
-      send-number = rw (when-refused {A = ℕ} _ _ _ refused) found
+four : (a b c d : Bool) → answered ((1, a) ∷ (2, b) ∷ (3, c) ∷ (4, d) ∷ []) ≤ 4
+unfolding answered
+four true b c d = omega arith
+four false true c d = omega arith
+four false false true d = omega arith
+four false false false true = omega arith
+four false false false false = omega arith
 
-      pub send-refused : HostedSent private public t p block nl qm g out (record { number = n; count = 0 }) out
-      send-refused =
-          let no : hostedSendNumber private public t p block nl qm g (length out) ≡ 0 → ⊥ = λ z. h (send-number ∙ z) in
-          record { number = send-number; count = sym (when-refused _ g 0 no); output = sym (when-refused _ _ out no) }
+module _ {private public : List ℕ} {t p : ℕ} {promised : List ℕ → Type 0} {out : List ℕ} {r : Written} {out' : List ℕ}
+    (h : Hosted private public t p promised out r out') where
+  number-refused : (lookupNumber private public t p ≡ 0 → ⊥) → r .number ≡ lookupNumber private public t p
+  number-refused n = ap (λ (w : Written). w .number) (h .refused n .0)
 
-    module _ (a nl qm : ℕ) (bits out : List ℕ) where
-      receive-number : n ≡ hostedReceiveNumber private public t p a nl qm bits (length out)
-      unfolding hostedReceiveNumber
-      receive-number = rw (when-refused {A = ℕ} _ _ _ refused) found
+  lookup-four : lookupNumber private public t p ≤ 4
+  unfolding lookupNumber
+  lookup-four = four _ _ _ _
 
-      pub receive-refused : HostedReceived private public t p a nl qm bits out (record { number = n; count = 0 }) out
-      receive-refused =
-          let no : hostedReceiveNumber private public t p a nl qm bits (length out) ≡ 0 → ⊥ = λ z. h (receive-number ∙ z) in
-          record { number = receive-number; count = sym (when-refused _ (a / 8) 0 no); output = sym (when-refused _ _ out no) }
+  -- 1 to 4 are lookup's numbers: with any other the record was found
+  pub looked-up : (r .number ≡ 0) ⊎ (4 < r .number) → lookupNumber private public t p ≡ 0
+  looked-up s =
+      equal-or (lookupNumber private public t p) 0 (λ z. z)
+      (λ n. absurd (⊎-elim (λ z. n (sym (number-refused n) ∙ z)) (λ l. omega (arith, number-refused n, lookup-four)) s))
 
-  -- ---- it does not, and R is the record
-
-  module _ (z : lookupNumber private public t p ≡ 0) (R : List ℕ) (e : R ≡ lookupRecord private public t p) (r : Written) (out out' : List ℕ) where
-    module _ (block : List ℕ) (nl qm g : ℕ) where
-      pub send-done : Sent R block nl qm g out r out' → HostedSent private public t p block nl qm g out r out'
-      unfolding hostedSendNumber
-      send-done s =
-          let n : hostedSendNumber private public t p block nl qm g (length out) ≡ sendNumber R block nl qm g (length out)
-          = rw (when-done {A = ℕ} _ _ _ z, e) in
-          record { number = rw n (s .number); count = rw n (s .count); output = rw (n, ← e) (s .output) }
-
-    module _ (a nl qm : ℕ) (bits : List ℕ) where
-      pub receive-done : Received R a nl qm bits out r out' → HostedReceived private public t p a nl qm bits out r out'
-      unfolding hostedReceiveNumber
-      receive-done s =
-          let n : hostedReceiveNumber private public t p a nl qm bits (length out) ≡ receiveNumber R a nl qm bits (length out)
-          = rw (when-done {A = ℕ} _ _ _ z, e) in
-          record { number = rw n (s .number); count = rw n (s .count); output = rw (n, ← e) (s .output) }
+  pub hosted-promised : (r .number ≡ 0) ⊎ (4 < r .number) → promised (lookupRecord private public t p)
+  hosted-promised s = h .found (looked-up s)

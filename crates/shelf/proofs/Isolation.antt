@@ -1,88 +1,53 @@
--- Isolation of the tenants (demand 2), over the promises of the calls. Assumes nothing.
-use mathlib.Core.Path.{_≡_, refl, sym, _∙_}
+-- Isolation of the tenants (demand 2), over the promises of the calls.
+use mathlib.Core.Path.{_≡_, refl, sym, ap, _∙_, subst}
 use mathlib.Core.Bool.{Bool, true, false, cond, not, _||_}
 use mathlib.Core.List.{List}
 use mathlib.Core.Logic.{_⊎_, inl, inr}
 use Prim.Native.Nat.{ℕ, _<_}
 use native.Mathlib.Omega.{arith}
 use lib.Dec.{eqb}
-use lib.ListN.{length}
-use denote.Ref.{RefT, now}
 use borrow.Author.Tests.{eqb-true, eq-eqb, not-false}
 use Rattle.bits.specs.declared.number.Written.{Written}
 use Rattle.bits.proofs.Answers.{passed, when-done}
 use Rattle.bits.proofs.Ranges.{both, First, first-some, none-any}
-use Rattle.shelf.specs.Shelf.{count, tenant, profile, recordAt, wellFormed}
-use Rattle.shelf.specs.Lookup.{isEntry, has, entryOf, recordOf, lookupNumber, lookupRecord}
-use Rattle.shelf.specs.Promises.{LookedUp, hostedSendNumber, HostedSent, hostedReceiveNumber, HostedReceived}
-use Rattle.shelf.specs.Isolation.{Own, Public, AgreeFor, AlikeFor}
-use Rattle.shelf.proofs.Agreement.{hosted-send-agree, hosted-receive-agree}
+use Rattle.shelf.specs.Shelf.{count, tenant, profile, privateShelf, publicShelf}
+use Rattle.shelf.specs.Lookup.{isEntry, has, entryOf, recordOf, lookupNumber, lookupRecord, lookupPlace}
+use Rattle.shelf.specs.Promises.{Hosted}
+use Rattle.shelf.specs.Isolation.{Own, Public, AlikeFor}
 
 -- ---- "Two well-formed private shelves that agree on that tenant's records give it the same answers and bits, with all else equal."
 
 module _ {t : ℕ} {S S' : List ℕ} (alike : AlikeFor t S S') (public : List ℕ) (p : ℕ) where
-  pub number-alike : lookupNumber S public t p ≡ lookupNumber S' public t p
+  pub same-number : lookupNumber S public t p ≡ lookupNumber S' public t p
   unfolding lookupNumber
-  number-alike = rw (alike .formed, alike .agree .numbers p)
+  same-number = rw (alike .formed, alike .agree .numbers p)
 
-  own-alike : cond (has S t p) (recordOf S t p) (recordOf public 0 p) ≡ cond (has S' t p) (recordOf S' t p) (recordOf public 0 p)
-  own-alike = by-value (has S t p) refl
+  same-own : cond (has S t p) (recordOf S t p) (recordOf public 0 p) ≡ cond (has S' t p) (recordOf S' t p) (recordOf public 0 p)
+  same-own = by-value (has S t p) refl
     where
       by-value : (b : Bool) → has S t p ≡ b → cond b (recordOf S t p) (recordOf public 0 p) ≡ cond (has S' t p) (recordOf S' t p) (recordOf public 0 p)
       by-value true e = rw (← alike .agree .numbers p, e) (alike .agree .records p e)
       by-value false e = rw (← alike .agree .numbers p, e)
 
-  pub record-alike : lookupRecord S public t p ≡ lookupRecord S' public t p
+  pub same-record : lookupRecord S public t p ≡ lookupRecord S' public t p
   unfolding lookupRecord
-  record-alike = rw (number-alike, own-alike)
+  same-record = rw (same-number, same-own)
 
-  -- whatever meets the promise over the one shelf meets it over the other
-  pub send-alike : {block : List ℕ} {nl qm g : ℕ} {out : List ℕ} {r : Written} {o : List ℕ}
-      → HostedSent S public t p block nl qm g out r o → HostedSent S' public t p block nl qm g out r o
-  unfolding hostedSendNumber
-  send-alike {block} {nl} {qm} {g} {out} a =
-      let n : hostedSendNumber S public t p block nl qm g (length out) ≡ hostedSendNumber S' public t p block nl qm g (length out) = rw (number-alike, record-alike) in
-      record { number = a .number ∙ n; count = rw (← n) (a .count); output = rw (← n, ← record-alike) (a .output) }
+  -- the place too, where the tenant has no record of that number of its own
+  pub same-place : has S t p ≡ false → (q q' r : ℕ × ℕ) → lookupPlace S public t p q r ≡ lookupPlace S' public t p q' r
+  unfolding lookupPlace
+  same-place none q q' r = rw (same-number, ← alike .agree .numbers p, none)
 
-  pub receive-alike : {a nl qm : ℕ} {bits out : List ℕ} {r : Written} {o : List ℕ}
-      → HostedReceived S public t p a nl qm bits out r o → HostedReceived S' public t p a nl qm bits out r o
-  unfolding hostedReceiveNumber
-  receive-alike {a} {nl} {qm} {bits} {out} h =
-      let n : hostedReceiveNumber S public t p a nl qm bits (length out) ≡ hostedReceiveNumber S' public t p a nl qm bits (length out) = rw (number-alike, record-alike) in
-      record { number = h .number ∙ n; count = rw (← n) (h .count); output = rw (← n, ← record-alike) (h .output) }
-
-  -- so two calls, one over each shelf, give the same
-  pub hosted-send-alike : {block : List ℕ} {nl qm g : ℕ} {out : List ℕ} {r r' : Written} {o o' : List ℕ}
-      → HostedSent S public t p block nl qm g out r o → HostedSent S' public t p block nl qm g out r' o' → (r ≡ r') × (o ≡ o')
-  hosted-send-alike a b = hosted-send-agree (send-alike a) b
-
-  pub hosted-receive-alike : {a nl qm : ℕ} {bits out : List ℕ} {r r' : Written} {o o' : List ℕ}
-      → HostedReceived S public t p a nl qm bits out r o → HostedReceived S' public t p a nl qm bits out r' o' → (r ≡ r') × (o ≡ o')
-  hosted-receive-alike a b = hosted-receive-agree (receive-alike a) b
-
--- and a lookup over each gives the same octets
-pub lookup-alike : {private private' public : RefT (List ℕ)} {t p : ℕ} {r r' : RefT (List ℕ)} → AlikeFor t (now private) (now private')
-    → LookedUp private public t p r → LookedUp private' public t p r' → now r ≡ now r'
-lookup-alike {public = public} {p = p} alike a b = a .octets ∙ record-alike alike (now public) p ∙ sym (b .octets)
-
--- the same in the demand's own words: both shelves well formed, and agreeing on the tenant's records
-module _ {t : ℕ} {S S' : List ℕ} (formed : wellFormed true S ≡ true) (formed' : wellFormed true S' ≡ true) (agree : AgreeFor t S S') where
-  alike : AlikeFor t S S'
-  alike = record { formed = formed ∙ sym formed'; agree = agree }
-
-  pub same-number : (public : List ℕ) (p : ℕ) → lookupNumber S public t p ≡ lookupNumber S' public t p
-  same-number public p = number-alike alike public p
-
-  pub same-record : (public : List ℕ) (p : ℕ) → lookupRecord S public t p ≡ lookupRecord S' public t p
-  same-record public p = record-alike alike public p
-
-  pub same-sent : (public : List ℕ) (p : ℕ) {block : List ℕ} {nl qm g : ℕ} {out : List ℕ} {r r' : Written} {o o' : List ℕ}
-      → HostedSent S public t p block nl qm g out r o → HostedSent S' public t p block nl qm g out r' o' → (r ≡ r') × (o ≡ o')
-  same-sent public p a b = hosted-send-alike alike public p a b
-
-  pub same-received : (public : List ℕ) (p : ℕ) {a nl qm : ℕ} {bits out : List ℕ} {r r' : Written} {o o' : List ℕ}
-      → HostedReceived S public t p a nl qm bits out r o → HostedReceived S' public t p a nl qm bits out r' o' → (r ≡ r') × (o ≡ o')
-  same-received public p a b = hosted-receive-alike alike public p a b
+  -- whatever meets a hosted call's promise over the one shelf meets it over the other
+  pub same-promise : {promised : List ℕ → Type 0} {out : List ℕ} {r : Written} {o : List ℕ}
+      → Hosted S public t p promised out r o → Hosted S' public t p promised out r o
+  same-promise {promised} h =
+      record {
+        refused = λ n.
+            let kept = h .refused (λ z. n (sym same-number ∙ z)) in
+            (kept .0 ∙ ap (λ (k : ℕ). record { number = k; count = 0 }) same-number, kept .1);
+        found = λ z. subst promised same-record (h .found (same-number ∙ z));
+      }
 
 -- ---- "A tenant is served from its own private records or the public shelf."
 
@@ -107,12 +72,23 @@ no-entry S t p e k l a b =
     let y : _≡_ {A = ℕ} 0 1 = cc in
     omega arith
 
+-- where the record is the public one, the private shelf has none
+pub public-none : {private public : List ℕ} {t p : ℕ} {R : List ℕ} → Public private public t p R → has private t p ≡ false
+public-none {private} {t = t} {p = p} h = by-value (has private t p) refl
+  where
+    by-value : (b : Bool) → has private t p ≡ b → b ≡ false
+    by-value false e = refl
+    by-value true e =
+        let f = found private t p e in
+        let is = entry-is private t p (entryOf private t p) (f .holds) in
+        absurd (h .none (entryOf private t p) (f .below) (is .0) (is .1))
+
 some-has : (private public : List ℕ) (t p : ℕ) → lookupNumber private public t p ≡ 0 → (has private t p || has public 0 p) ≡ true
 unfolding lookupNumber
 some-has private public t p z =
     let one = passed 1 _ (eqb t 0) (omega arith) z .1 in
-    let two = passed 2 _ (not (wellFormed true private)) (omega arith) one .1 in
-    let three = passed 3 _ (not (wellFormed false public)) (omega arith) two .1 in
+    let two = passed 2 _ (not (privateShelf private)) (omega arith) one .1 in
+    let three = passed 3 _ (not (publicShelf public)) (omega arith) two .1 in
     not-false (has private t p || has public 0 p) (passed 4 _ (not (has private t p || has public 0 p)) (omega arith) three .0)
 
 pub served : (private public : List ℕ) (t p : ℕ) → lookupNumber private public t p ≡ 0

@@ -1,4 +1,4 @@
--- What the tests of a shelf say. Assumes nothing.
+-- What the tests of a shelf say, in the document's order and in the code's.
 use mathlib.Core.Path.{_≡_, refl, sym, ap, subst}
 use mathlib.Core.Bool.{Bool, true, false, _&&_, _||_}
 use mathlib.Core.List.{List}
@@ -9,10 +9,17 @@ use native.Mathlib.Numerals.{sub-one}
 use native.Mathlib.Omega.{arith}
 use lib.Dec.{eqb, leb, ltb}
 use lib.ListN.{length}
-use borrow.Author.Tests.{ltb-true, leb-true, eqb-true}
-use Rattle.bits.specs.Ranges.{allTo}
-use Rattle.bits.proofs.Ranges.{last-or, below-or, both, all-at}
-use Rattle.shelf.specs.Shelf.{count, tenant, profile, offset, size, tenantRight, rises, offsetDue, entryRight, sizesRight, endsRight, wellFormed}
+use borrow.Author.Tests.{ltb-true, leb-true, eqb-true, le-leb, eq-eqb}
+use Rattle.bits.specs.Ranges.{allBelow}
+use Rattle.bits.proofs.Ranges.{last-or, below-or, both, all-at, all-of}
+use Rattle.shelf.specs.Shelf.{count, tenant, profile, offset, size, rises, offsetDue, chained, endsRight, tenantRight, wellFormed}
+use Rattle.shelf.specs.steps.Walking.{sizesRight, entryRight, walkRight}
+
+-- two tests that hold together are one
+same-test : (a b : Bool) → (a ≡ true → b ≡ true) → (b ≡ true → a ≡ true) → a ≡ b
+same-test true b f g = sym (f refl)
+same-test false true f g = g refl
+same-test false false f g = refl
 
 module _ (S : List ℕ) where
   -- ---- an entry and the one before it
@@ -29,13 +36,102 @@ module _ (S : List ℕ) where
   due-later zero n = absurd (n refl)
   due-later (suc k) n = rw sub-one
 
-  -- ---- the sizes
+  -- ---- a well-formed shelf
 
   pub record Sizes : Type 0 where
-    pub long : 2 ≤ length S
     pub short : length S ≤ 65535
     pub few : count S ≤ 64
     pub room : 2 + 8 * count S ≤ length S
+
+  pub record Entry (private : Bool) (k : ℕ) : Type 0 where
+    pub owner : tenantRight private (tenant S k) ≡ true
+    pub rising : rises S k ≡ true
+    pub chain : offset S k ≡ offsetDue S k
+
+  pub record Formed (private : Bool) : Type 0 where
+    pub sizes : Sizes
+    pub entries : (k : ℕ) → k < count S → Entry private k
+    pub ends : length S ≡ offsetDue S (count S)
+
+  -- ---- the records stand one behind the other, so each is due at or behind the one before, and the first behind the entries
+
+  due-next : (k : ℕ) → offset S k ≡ offsetDue S k → offsetDue S k ≤ offsetDue S (suc k)
+  unfolding offsetDue
+  due-next k e = omega (arith, e)
+
+  due-rises : ((k : ℕ) → k < count S → offset S k ≡ offsetDue S k) → (d k : ℕ) → k + d ≡ count S → offsetDue S k ≤ offsetDue S (count S)
+  due-rises chain zero k e =
+      let last : offsetDue S k ≡ offsetDue S (count S) = ap (offsetDue S) (let z : k ≡ count S = omega arith in z) in
+      omega (arith, last)
+  due-rises chain (suc d) k e = omega (arith, due-rises chain d (suc k) (omega arith), due-next k (chain k (omega arith)))
+
+  entries-inside : ((k : ℕ) → k < count S → offset S k ≡ offsetDue S k) → length S ≡ offsetDue S (count S) → 2 + 8 * count S ≤ length S
+  unfolding offsetDue
+  entries-inside chain ends =
+      let first : 2 + 8 * count S ≤ offsetDue S (count S) = due-rises chain (count S) 0 (omega arith) in
+      omega (arith, first, ends)
+
+  pub record-within : (private : Bool) → Formed private → (k : ℕ) → k < count S → offset S k + size S k ≤ length S
+  unfolding offsetDue
+  record-within private f k l =
+      let next : offset S k + size S k ≤ offsetDue S (count S) = due-rises (λ j m. f .entries j m .chain) (count S - suc k) (suc k) (omega arith) in
+      omega (arith, next, f .ends)
+
+  -- ---- in the document's order
+
+  chain-is : (k : ℕ) → chained S k ≡ true → offset S k ≡ offsetDue S k
+  unfolding chained
+  chain-is k e = eqb-true (offset S k) (offsetDue S k) e
+
+  is-chain : (k : ℕ) → offset S k ≡ offsetDue S k → chained S k ≡ true
+  unfolding chained
+  is-chain k e = eq-eqb (offset S k) (offsetDue S k) e
+
+  pub formed-is : (private : Bool) → wellFormed private S ≡ true → Formed private
+  unfolding wellFormed endsRight
+  formed-is private e =
+      let n = count S in
+      let few = leb n 64 in
+      let up = allBelow n (rises S) in
+      let chain = allBelow n (chained S) in
+      let short = leb (length S) 65535 in
+      let owners = allBelow n (λ k. tenantRight private (tenant S k)) in
+      let five = both (few && up && chain && endsRight S && short) owners e in
+      let four = both (few && up && chain && endsRight S) short (five .0) in
+      let three = both (few && up && chain) (endsRight S) (four .0) in
+      let two = both (few && up) chain (three .0) in
+      let one = both few up (two .0) in
+      let ends : length S ≡ offsetDue S n = eqb-true (length S) (offsetDue S n) (three .1) in
+      let link : (k : ℕ) → k < n → offset S k ≡ offsetDue S k = λ k l. chain-is k (all-at n (chained S) (two .1) k l) in
+      record {
+        sizes = record {
+          short = leb-true (length S) 65535 (four .1);
+          few = leb-true n 64 (one .0);
+          room = entries-inside link ends;
+        };
+        entries = λ k l.
+            record {
+              owner = all-at n (λ k. tenantRight private (tenant S k)) (five .1) k l;
+              rising = all-at n (rises S) (one .1) k l;
+              chain = link k l;
+            };
+        ends = ends;
+      }
+
+  is-formed : (private : Bool) → Formed private → wellFormed private S ≡ true
+  unfolding wellFormed endsRight
+  is-formed private f =
+      let n = count S in
+      rw (
+        le-leb n 64 (f .sizes .few),
+        all-of n (rises S) (λ k l. f .entries k l .rising),
+        all-of n (chained S) (λ k l. is-chain k (f .entries k l .chain)),
+        eq-eqb (length S) (offsetDue S n) (f .ends),
+        le-leb (length S) 65535 (f .sizes .short),
+        all-of n (λ k. tenantRight private (tenant S k)) (λ k l. f .entries k l .owner),
+      )
+
+  -- ---- in the code's order
 
   pub sizes-are : sizesRight S ≡ true → Sizes
   unfolding sizesRight
@@ -44,56 +140,50 @@ module _ (S : List ℕ) where
       let two = both (leb 2 (length S) && leb (length S) 65535) (leb (count S) 64) (three .0) in
       let one = both (leb 2 (length S)) (leb (length S) 65535) (two .0) in
       record {
-        long = leb-true 2 (length S) (one .0);
         short = leb-true (length S) 65535 (one .1);
         few = leb-true (count S) 64 (two .1);
         room = leb-true (2 + 8 * count S) (length S) (three .1);
       }
 
-  -- ---- a well-formed shelf
-
-  pub record Entry (private : Bool) (k : ℕ) : Type 0 where
-    pub owner : tenantRight private (tenant S k) ≡ true
-    pub rising : rises S k ≡ true
-    pub chained : offset S k ≡ offsetDue S k
-
-  pub entry-is : (private : Bool) (k : ℕ) → entryRight private S k ≡ true → Entry private k
+  entry-is : (private : Bool) (k : ℕ) → entryRight private S k ≡ true → Entry private k
   unfolding entryRight
   entry-is private k e =
-      let two = both (tenantRight private (tenant S k) && rises S k) (eqb (offset S k) (offsetDue S k)) e in
+      let two = both (tenantRight private (tenant S k) && rises S k) (chained S k) e in
       let one = both (tenantRight private (tenant S k)) (rises S k) (two .0) in
-      record { owner = one .0; rising = one .1; chained = eqb-true (offset S k) (offsetDue S k) (two .1) }
+      record { owner = one .0; rising = one .1; chain = chain-is k (two .1) }
 
-  pub record Formed (private : Bool) : Type 0 where
-    pub sizes : Sizes
-    pub entries : (k : ℕ) → k < count S → Entry private k
-    pub ends : length S ≡ offsetDue S (count S)
-
-  pub formed-is : (private : Bool) → wellFormed private S ≡ true → Formed private
-  unfolding wellFormed endsRight
-  formed-is private e =
-      let two = both (sizesRight S && allTo (count S) (entryRight private S)) (endsRight S) e in
-      let one = both (sizesRight S) (allTo (count S) (entryRight private S)) (two .0) in
+  walked-formed : (private : Bool) → walkRight private S ≡ true → Formed private
+  unfolding walkRight endsRight
+  walked-formed private e =
+      let two = both (sizesRight S && allBelow (count S) (entryRight private S)) (endsRight S) e in
+      let one = both (sizesRight S) (allBelow (count S) (entryRight private S)) (two .0) in
       record {
         sizes = sizes-are (one .0);
         entries = λ k l. entry-is private k (all-at (count S) (entryRight private S) (one .1) k l);
         ends = eqb-true (length S) (offsetDue S (count S)) (two .1);
       }
 
-  -- the records stand one behind the other, so from each on the rest is within the shelf
-  due-within : (private : Bool) → Formed private → (d k : ℕ) → k + d ≡ count S → offsetDue S k ≤ length S
-  unfolding offsetDue
-  due-within private f zero k e =
-      let last : offsetDue S k ≡ offsetDue S (count S) = ap (offsetDue S) (let z : k ≡ count S = omega arith in z) in
-      omega (arith, last, f .ends)
-  due-within private f (suc d) k e =
-      let next : offset S k + size S k ≤ length S = due-within private f d (suc k) (omega arith) in
-      let here = f .entries k (omega arith) .chained in
-      omega (arith, next, here)
+  entry-right : (private : Bool) (k : ℕ) → Entry private k → entryRight private S k ≡ true
+  unfolding entryRight
+  entry-right private k h = rw (h .owner, h .rising, is-chain k (h .chain))
 
-  pub record-within : (private : Bool) → Formed private → (k : ℕ) → k < count S → offset S k + size S k ≤ length S
-  unfolding offsetDue
-  record-within private f k l = due-within private f (count S - suc k) (suc k) (omega arith)
+  formed-walked : (private : Bool) → Formed private → walkRight private S ≡ true
+  unfolding walkRight sizesRight endsRight
+  formed-walked private f =
+      let n = count S in
+      let long : 2 ≤ length S = omega (arith, f .sizes .room) in
+      rw (
+        le-leb 2 (length S) long,
+        le-leb (length S) 65535 (f .sizes .short),
+        le-leb n 64 (f .sizes .few),
+        le-leb (2 + 8 * n) (length S) (f .sizes .room),
+        all-of n (entryRight private S) (λ k l. entry-right private k (f .entries k l)),
+        eq-eqb (length S) (offsetDue S n) (f .ends),
+      )
+
+  pub walk-is : (private : Bool) → walkRight private S ≡ wellFormed private S
+  walk-is private =
+      same-test (walkRight private S) (wellFormed private S) (λ e. is-formed private (walked-formed private e)) (λ e. formed-walked private (formed-is private e))
 
   -- ---- "Pairs (tenant, profile number) strictly rise", so a pair has one entry at most
 

@@ -1,11 +1,11 @@
 -- Lookup (document 01, "Shelf and profile records"): "It answers the tenant's own record, else the public record of that number."
-use mathlib.Core.Bool.{Bool, true, false, cond, not, _&&_, _||_}
+use mathlib.Core.Bool.{Bool, cond, not, _&&_, _||_}
 use mathlib.Core.List.{List, [], _∷_}
 use Prim.Native.Nat.{ℕ, _+_}
 use lib.Dec.{eqb}
 use Rattle.bits.specs.Numbers.{answered, whenDone}
-use Rattle.bits.specs.Ranges.{anyTo, firstTo}
-use Rattle.shelf.specs.Shelf.{count, tenant, profile, offset, recordAt, wellFormed}
+use Rattle.bits.specs.Ranges.{anyBelow, firstBelow}
+use Rattle.shelf.specs.Shelf.{count, tenant, profile, offset, recordAt, privateShelf, publicShelf}
 
 -- entry k is that of tenant t and profile number p
 unfoldable pub isEntry : List ℕ → ℕ → ℕ → ℕ → Bool
@@ -13,10 +13,10 @@ isEntry S t p k = eqb (tenant S k) t && eqb (profile S k) p
 
 -- a shelf has a record for t and p; which entry it is (pairs strictly rise, so there is one at most), and the record
 unfoldable pub has : List ℕ → ℕ → ℕ → Bool
-has S t p = anyTo (count S) (isEntry S t p)
+has S t p = anyBelow (count S) (isEntry S t p)
 
 unfoldable pub entryOf : List ℕ → ℕ → ℕ → ℕ
-entryOf S t p = firstTo (count S) (isEntry S t p)
+entryOf S t p = firstBelow (count S) (isEntry S t p)
 
 unfoldable pub recordOf : List ℕ → ℕ → ℕ → List ℕ
 recordOf S t p = recordAt S (entryOf S t p)
@@ -26,11 +26,12 @@ recordOf S t p = recordAt S (entryOf S t p)
 abbrev pub lookupConditions : List ℕ → List ℕ → ℕ → ℕ → List (ℕ × Bool)
 lookupConditions private public t p =
     (1, eqb t 0)
-    ∷ (2, not (wellFormed true private))
-    ∷ (3, not (wellFormed false public))
+    ∷ (2, not (privateShelf private))
+    ∷ (3, not (publicShelf public))
     ∷ (4, not (has private t p || has public 0 p))
     ∷ []
 
+-- what `lookup_number` answers: "The number may come from a call of its own beside the one for the stretch"
 unfoldable pub lookupNumber : List ℕ → List ℕ → ℕ → ℕ → ℕ
 lookupNumber private public t p = answered (lookupConditions private public t p)
 

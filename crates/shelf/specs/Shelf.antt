@@ -5,7 +5,7 @@ use Prim.Native.Nat.{ℕ, zero, suc, _+_, _*_}
 use lib.Dec.{eqb, leb, ltb}
 use lib.ListN.{length, take, drop}
 use Rattle.bits.specs.Bits.{numberAt}
-use Rattle.bits.specs.Ranges.{allTo}
+use Rattle.bits.specs.Ranges.{allBelow}
 
 -- ---- "a count n (0 to 64); then n entries of tenant, profile number, offset, length; then the records"
 
@@ -27,12 +27,7 @@ size S k = numberAt S (8 + 8 * k)
 unfoldable pub recordAt : List ℕ → ℕ → List ℕ
 recordAt S k = take (size S k) (drop (offset S k) S)
 
--- ---- well formed, part by part
-
--- "Every tenant is 0 in a public shelf and 1 or more in a private one"
-unfoldable pub tenantRight : Bool → ℕ → Bool
-tenantRight true t = leb 1 t
-tenantRight false t = eqb t 0
+-- ---- well formed, sentence by sentence
 
 -- "Pairs (tenant, profile number) strictly rise"
 unfoldable pub rises : List ℕ → ℕ → Bool
@@ -44,17 +39,32 @@ unfoldable pub offsetDue : List ℕ → ℕ → ℕ
 offsetDue S zero = 2 + 8 * count S
 offsetDue S (suc k) = offset S k + size S k
 
-unfoldable pub entryRight : Bool → List ℕ → ℕ → Bool
-entryRight private S k = tenantRight private (tenant S k) && rises S k && eqb (offset S k) (offsetDue S k)
-
--- the count and the entries stand in the shelf (which the offsets say too), and it "is at most 65,535 octets"
-unfoldable pub sizesRight : List ℕ → Bool
-sizesRight S = leb 2 (length S) && leb (length S) 65535 && leb (count S) 64 && leb (2 + 8 * count S) (length S)
+unfoldable pub chained : List ℕ → ℕ → Bool
+chained S k = eqb (offset S k) (offsetDue S k)
 
 -- "and the shelf ends with the last record (at 2 when n = 0)"
 unfoldable pub endsRight : List ℕ → Bool
 endsRight S = eqb (length S) (offsetDue S (count S))
 
--- `true` asks for a private shelf, `false` for a public one
+-- "Every tenant is 0 in a public shelf and 1 or more in a private one"
+unfoldable pub tenantRight : Bool → ℕ → Bool
+tenantRight true t = leb 1 t
+tenantRight false t = eqb t 0
+
+-- `true` asks for the tenants of a private shelf, `false` for those of a public one
 unfoldable pub wellFormed : Bool → List ℕ → Bool
-wellFormed private S = sizesRight S && allTo (count S) (entryRight private S) && endsRight S
+wellFormed private S =
+    -- "a count n (0 to 64)"
+    leb (count S) 64
+    && allBelow (count S) (rises S)
+    && allBelow (count S) (chained S)
+    && endsRight S
+    -- "A shelf is at most 65,535 octets"
+    && leb (length S) 65535
+    && allBelow (count S) (λ k. tenantRight private (tenant S k))
+
+abbrev pub privateShelf : List ℕ → Bool
+privateShelf S = wellFormed true S
+
+abbrev pub publicShelf : List ℕ → Bool
+publicShelf S = wellFormed false S

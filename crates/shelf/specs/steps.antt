@@ -1,2 +1,3 @@
 -- What inner contracts cite; no reader of the promises needs it.
+pub mod Walking
 pub mod Finding

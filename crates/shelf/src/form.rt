@@ -6,8 +6,9 @@ ghost use mathlib.Core.Bool.{true, _&&_, _||_};
 ghost use Prim.Native.Nat.{_+_, _*_, _≤_};
 ghost use lib.Dec.{eqb, ltb};
 ghost use lib.ListN.{length};
-ghost use Rattle.bits.specs.Ranges.{allTo};
-ghost use Rattle.shelf.specs.Shelf.{count, tenantRight, rises, offsetDue, entryRight, sizesRight, endsRight, wellFormed};
+ghost use Rattle.bits.specs.Ranges.{allBelow};
+ghost use Rattle.shelf.specs.Shelf.{count, rises, offsetDue, endsRight, tenantRight, wellFormed};
+ghost use Rattle.shelf.specs.steps.Walking.{sizesRight, entryRight};
 
 // "Every tenant is 0 in a public shelf and 1 or more in a private one."
 fn tenant_right(private: bool, tenant: usize) -> bool
@@ -75,7 +76,7 @@ fn entry_right(private: bool, shelf: &[u8], k: usize) -> bool
 
 fn entries_right(private: bool, shelf: &[u8]) -> bool
     requires { ⌜ sizesRight (now shelf) ≡ true ⌝ }
-    ensures { λ r. ⌜ r ≡ allTo (count (now (shelf .entry))) (entryRight private (now (shelf .entry))) ⌝ }
+    ensures { λ r. ⌜ r ≡ allBelow (count (now (shelf .entry))) (entryRight private (now (shelf .entry))) ⌝ }
 {
     let count = entry::count(shelf);
     let mut k = 0;
@@ -105,7 +106,7 @@ fn sizes_right(shelf: &[u8]) -> bool
     2 + 8 * count <= shelf.len()
 }
 
-// "The shelf ends with the last record (at 2 when n = 0)."
+// "and the shelf ends with the last record (at 2 when n = 0)."
 fn ends_right(shelf: &[u8]) -> bool
     requires { ⌜ sizesRight (now shelf) ≡ true ⌝ }
     ensures { λ r. ⌜ r ≡ endsRight (now (shelf .entry)) ⌝ }

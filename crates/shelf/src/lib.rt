@@ -1,8 +1,11 @@
 // Shelves: the record that a tenant is given, and the hosted calls, which look it up first. The coding part is known by its promises only.
 mod entry;
-pub mod find;
+mod find;
 mod form;
+pub mod inner;
 
+use crate::inner::look;
+use crate::inner::stretch;
 use bits::count::CodedBits;
 use bits::number::DONE;
 use bits::number::Written;
@@ -14,16 +17,16 @@ ghost use Rattle.shelf.specs.Promises.{LookedUp, HostedSent, HostedRecei
 pub fn lookup_number(private: &[u8], public: &[u8], tenant: u16, profile: u16) -> u32
     ensures { λ r. ⌜ r ≡ lookupNumber (now (private .entry)) (now (public .entry)) tenant profile ⌝ }
 {
-    let found = find::look(private, public, tenant, profile);
+    let found = look(private, public, tenant, profile);
     found.number
 }
 
-// "That stretch of one shelf or the other, not a copy."
+// "What is handed back is that stretch of one shelf or the other, not a copy."
 pub fn lookup<'a>(private: &'a [u8], public: &'a [u8], tenant: u16, profile: u16) -> &'a [u8]
     ensures { λ r. ⌜ LookedUp (private .entry) (public .entry) tenant profile r ⌝ }
 {
-    let found = find::look(private, public, tenant, profile);
-    find::stretch(private, public, found)
+    let found = look(private, public, tenant, profile);
+    stretch(private, public, found)
 }
 
 // Sends a transport block with the profile that a tenant is given: the number of the lookup where it refuses, else what sending answers.
@@ -40,12 +43,12 @@ pub fn hosted_send<'a>(
 ) -> Written
     ensures { λ r. ⌜ HostedSent (now (private .entry)) (now (public .entry)) tenant profile (now (block .entry)) nl qm (g .0) (now (out .entry)) r (now (out .exit)) ⌝ }
 {
-    let found = find::look(private, public, tenant, profile);
+    let found = look(private, public, tenant, profile);
     let number = found.number;
     if number != DONE {
         return Written { number, count: 0 };
     }
-    coding::send(find::stretch(private, public, found), block, nl, qm, g, out)
+    coding::send(stretch(private, public, found), block, nl, qm, g, out)
 }
 
 // Receives radio bits with the profile that a tenant is given, the same way.
@@ -62,10 +65,10 @@ pub fn hosted_receive<'a>(
 ) -> Written
     ensures { λ r. ⌜ HostedReceived (now (private .entry)) (now (public .entry)) tenant profile a nl qm (now (bits .entry)) (now (out .entry)) r (now (out .exit)) ⌝ }
 {
-    let found = find::look(private, public, tenant, profile);
+    let found = look(private, public, tenant, profile);
     let number = found.number;
     if number != DONE {
         return Written { number, count: 0 };
     }
-    coding::receive(find::stretch(private, public, found), a, nl, qm, bits, out)
+    coding::receive(stretch(private, public, found), a, nl, qm, bits, out)
 }

@@ -11,7 +11,7 @@ ghost use Rattle.text.specs.Words.{Held, valueOf};
 
 // What the words of a request gave.
 pub struct Given {
-    // Octets that RECORD or PRIVATE fills of the first half of the store of records.
+    // Octets that RECORD, PACKED or PRIVATE fills of the first half of the store of records.
     pub record: usize,
     // Octets that PUBLIC fills of the second half.
     pub public: usize,
@@ -159,6 +159,9 @@ fn read_word(
 // A request has one of these at most.
 fn is_first(name: &[u8]) -> bool {
     if same(name, b"RECORD") {
+        return true;
+    }
+    if same(name, b"PACKED") {
         return true;
     }
     same(name, b"PRIVATE")

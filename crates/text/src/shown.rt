@@ -58,32 +58,37 @@ fn count(shown: Shown, s: &[u8]) -> usize
     }
 }
 
-// The remainders change nothing in an octet that can be shown (`largest`).
+// The remainder changes nothing in an octet that can be shown (`largest`).
 fn digit(shown: Shown, s: &[u8], k: usize) -> u8
     requires { ⌜ k < digitsOf shown (length (now s)) ⌝ }
     ensures { λ r. ⌜ r < 16 ⌝ }
 {
     match shown {
         Shown::Places => s[k] % 10,
-        Shown::Bits => four(s, 4 * k),
+        Shown::Bits => half(octet(s, 8 * (k / 2)), k % 2),
         Shown::Octets => half(s[k / 2], k % 2),
     }
 }
 
-// The number of four bits.
-fn four(s: &[u8], at: usize) -> u8
+// The octet that eight bits from `at` on stand for.
+fn octet(s: &[u8], at: usize) -> u8
     requires { ⌜ at ≤ length (now s) + 8 ⌝ }
-    ensures { λ r. ⌜ r < 16 ⌝ }
 {
-    bit(s, at) * 8 + bit(s, at + 1) * 4 + bit(s, at + 2) * 2 + bit(s, at + 3)
+    let mut eight = [0u8; 8];
+    let mut i = 0;
+    while i < 8 {
+        eight[i] = bit(s, at + i);
+        i += 1;
+    }
+    bits::inner::get_number(&eight, 0, 8) as u8
 }
 
-// Behind the last bit there are zeros.
+// Behind the last bit there are zeros. The mask changes nothing in an octet that can be shown (`largest`).
 fn bit(s: &[u8], at: usize) -> u8
     ensures { λ r. ⌜ r < 2 ⌝ }
 {
     if at < s.len() {
-        return s[at] % 2;
+        return s[at] & 1;
     }
     0
 }
@@ -93,9 +98,9 @@ fn half(octet: u8, which: usize) -> u8
     ensures { λ r. ⌜ r < 16 ⌝ }
 {
     if which == 0 {
-        return octet / 16;
+        return octet >> 4;
     }
-    octet % 16
+    octet & 15
 }
 
 fn character(digit: u8) -> u8

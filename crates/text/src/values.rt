@@ -2,6 +2,7 @@
 use crate::faults::Fault;
 use crate::octets::least;
 use crate::octets::same;
+use bits::inner::to_usize;
 ghost use Prim.Native.Nat.{_*_, _≤_};
 ghost use mathlib.Core.Path.{_≡_};
 ghost use lib.ListN.{length};
@@ -41,12 +42,6 @@ fn digit(octet: u8) -> u8
     }
 }
 
-fn wide(x: u8) -> usize
-    ensures { λ r. ⌜ r ≡ x ⌝ }
-{
-    x as usize
-}
-
 // A number has at most 64 bits, as a `usize` has.
 pub fn number(word: &[u8]) -> Parsed {
     if word.len() == 0 {
@@ -55,7 +50,7 @@ pub fn number(word: &[u8]) -> Parsed {
     let mut value: usize = 0;
     let mut i = 0;
     while i < word.len() {
-        let d = wide(digit(word[i]));
+        let d = to_usize(digit(word[i]));
         if d > 9 {
             return Parsed::Bad(Fault::Number);
         }
@@ -110,7 +105,7 @@ fn at_most(room: usize, n: usize) -> Parsed
     Parsed::Value(n)
 }
 
-// Packed octets, those of a record.
+// Packed octets, as those of a record.
 pub fn octets(word: &[u8], store: &mut [u8]) -> Parsed
     ensures { λ r. ⌜ valueOf r ≤ length (now (store .entry)) ⌝ }
 {
@@ -202,7 +197,7 @@ fn pairs(digits: &[u8], store: &mut [u8]) -> bool
         if low > 15 {
             return false;
         }
-        store[i] = high * 16 + low;
+        store[i] = (high << 4) | low;
         i += 1;
     }
     true

@@ -1,6 +1,6 @@
 //! Answers one line (docs/REQUESTS.md, "Requests" and "Errors").
 
-use crate::checksum::checksum;
+use crate::checksum::{checksum, checksum_of_octets};
 use crate::errors::Fault;
 use crate::hosted::{hosted_receive, hosted_send};
 use crate::numbers::{Number, DONE};
@@ -30,7 +30,8 @@ fn error(fault: Fault) -> String {
 
 fn answer_to(request: &Request) -> Result<String, Fault> {
     match request {
-        Request::Crc { width, bits } => Ok(crc(*width, bits)),
+        Request::Crc { width, bits } => Ok(sum(checksum(*width, bits))),
+        Request::Crcoct { width, octets } => Ok(sum(checksum_of_octets(*width, octets))),
         Request::Profile { record } => Ok(profile(record)),
         Request::Plan { record, octets } => Ok(plan(record, *octets)),
         Request::Encode {
@@ -87,8 +88,8 @@ fn hex_of_bits(bits: &[u8]) -> String {
     hex(&packed(bits))
 }
 
-fn crc(width: u64, bits: &[u8]) -> String {
-    match checksum(width, bits) {
+fn sum(checksum: Result<u32, Number>) -> String {
+    match checksum {
         Ok(value) => format!("{DONE} {value:x}"),
         Err(number) => format!("{number} 0"),
     }
@@ -182,6 +183,8 @@ mod tests {
         assert_eq!(answered("crc 24 00000001"), "0 864cfb");
         assert_eq!(answered("crc 7 1"), "8 0");
         assert_eq!(answered("crc 8 12"), "12 0");
+        assert_eq!(answered("crcoct 24 01"), "0 864cfb");
+        assert_eq!(answered("crcoct 7 01"), "8 0");
         assert_eq!(answered(&format!("profile {TOY}")), "0");
         assert_eq!(answered(&format!("profile {TOY}00")), "5");
         assert_eq!(answered(&format!("plan {TOY} 13")), "0 128 64 2 2");
@@ -260,5 +263,6 @@ mod tests {
         assert_eq!(answered(&format!("crc 8 {long}")), "error long");
         assert_eq!(answered("crc 8 one"), "error bits");
         assert_eq!(answered("profile one"), "error hex");
+        assert_eq!(answered("crcoct 8 one"), "error hex");
     }
 }

@@ -1,6 +1,7 @@
 //! The checksums of 5G.212 v2.3 section 5.1.1, as the remainder of a long division.
 
 use crate::numbers::{Number, NO_BIT, PARAMETER};
+use crate::octets::unpacked;
 
 /// The generators as 5.1.1 writes them: the exponents of D that are there, highest first.
 const CRC24A: &[usize] = &[24, 23, 18, 17, 14, 11, 10, 7, 6, 5, 4, 3, 1, 0];
@@ -14,6 +15,11 @@ pub fn checksum(width: u64, bits: &[u8]) -> Result<u32, Number> {
         return Err(NO_BIT);
     }
     Ok(value(&parity_bits(bits, &coefficients(exponents))))
+}
+
+/// The checksum of packed octets, the highest bit of each first, or the number that refuses them.
+pub fn checksum_of_octets(width: u64, octets: &[u8]) -> Result<u32, Number> {
+    checksum(width, &unpacked(octets))
 }
 
 /// "Append the 24 checksum bits of gCRC24A" (document 01, step 1).
@@ -75,9 +81,14 @@ fn value(bits: &[u8]) -> u32 {
 
 #[cfg(test)]
 mod tests {
-    use super::{checksum, coefficients, exponents, parity_bits, remainder, value, with_checksum};
+    use super::{
+        checksum, checksum_of_octets, coefficients, exponents, parity_bits, remainder, value,
+        with_checksum,
+    };
     use crate::numbers::{NO_BIT, PARAMETER};
+    use crate::octets::unpacked;
     use crate::random::Random;
+    use crate::samples::{binary, bits};
 
     const WIDTHS: [u64; 3] = [8, 16, 24];
 
@@ -95,26 +106,6 @@ mod tests {
 
     fn zeros(width: u64) -> Vec<u8> {
         vec![0; generator(width).len() - 1]
-    }
-
-    /// The places of a number's binary digits, the highest first.
-    fn binary(number: u32, places: u32) -> Vec<u8> {
-        (0..places)
-            .rev()
-            .map(|place| u8::try_from(number / 2u32.pow(place) % 2).unwrap())
-            .collect()
-    }
-
-    /// Packed octets as single bits, the highest of each octet first.
-    fn unpacked(octets: &[u8]) -> Vec<u8> {
-        octets
-            .iter()
-            .flat_map(|&octet| binary(u32::from(octet), 8))
-            .collect()
-    }
-
-    fn message(random: &mut Random, length: usize) -> Vec<u8> {
-        (0..length).map(|_| random.pick(&[0, 1])).collect()
     }
 
     fn sum(left: &[u8], right: &[u8]) -> Vec<u8> {
@@ -136,9 +127,9 @@ mod tests {
     #[test]
     fn worked_numbers() {
         // Document 01, P1 to P5.
-        assert_eq!(checksum(24, &unpacked(&[0x01])), Ok(0x86_4cfb));
-        assert_eq!(checksum(24, &unpacked(&[0x02])), Ok(0x8a_d50d));
-        assert_eq!(checksum(24, &unpacked(&[0x00])), Ok(0));
+        assert_eq!(checksum_of_octets(24, &[0x01]), Ok(0x86_4cfb));
+        assert_eq!(checksum_of_octets(24, &[0x02]), Ok(0x8a_d50d));
+        assert_eq!(checksum_of_octets(24, &[0x00]), Ok(0));
         assert_eq!(checksum(16, &[1]), Ok(0x1021));
         assert_eq!(checksum(8, &[1]), Ok(0x9b));
     }
@@ -146,10 +137,10 @@ mod tests {
     #[test]
     fn published_check_values() {
         // CRC-24/LTE-A, CRC-16/XMODEM and CRC-8/LTE: start zero, no reversal, no final change.
-        let digits = unpacked(b"123456789");
-        assert_eq!(checksum(24, &digits), Ok(0xcd_e703));
-        assert_eq!(checksum(16, &digits), Ok(0x31c3));
-        assert_eq!(checksum(8, &digits), Ok(0xea));
+        let digits = b"123456789";
+        assert_eq!(checksum_of_octets(24, digits), Ok(0xcd_e703));
+        assert_eq!(checksum_of_octets(16, digits), Ok(0x31c3));
+        assert_eq!(checksum_of_octets(8, digits), Ok(0xea));
     }
 
     #[test]
@@ -164,6 +155,7 @@ mod tests {
     fn no_bits_have_checksum_0() {
         for width in WIDTHS {
             assert_eq!(checksum(width, &[]), Ok(0));
+            assert_eq!(checksum_of_octets(width, &[]), Ok(0));
         }
     }
 
@@ -191,7 +183,7 @@ mod tests {
         let mut random = Random::new(1);
         for width in WIDTHS {
             for length in 0..200 {
-                let message = message(&mut random, length);
+                let message = bits(length, &mut random);
                 let word = [message.clone(), parity(width, &message)].concat();
                 assert_eq!(remainder_of(width, &word), zeros(width));
             }
@@ -225,7 +217,7 @@ mod tests {
     fn every_changed_bit_is_seen() {
         let mut random = Random::new(2);
         for width in WIDTHS {
-            let message = message(&mut random, 100);
+            let message = bits(100, &mut random);
             let word = [message.clone(), parity(width, &message)].concat();
             for place in 0..word.len() {
                 let mut changed = word.clone();
@@ -240,8 +232,8 @@ mod tests {
         let mut random = Random::new(3);
         for width in WIDTHS {
             for length in 0..100 {
-                let left = message(&mut random, length);
-                let right = message(&mut random, length);
+                let left = bits(length, &mut random);
+                let right = bits(length, &mut random);
                 assert_eq!(
                     parity(width, &sum(&left, &right)),
                     sum(&parity(width, &left), &parity(width, &right))
@@ -264,6 +256,7 @@ mod tests {
         for width in (0..=300).filter(|width| !WIDTHS.contains(width)) {
             assert_eq!(checksum(width, &[1]), Err(PARAMETER));
             assert_eq!(checksum(width, &[]), Err(PARAMETER));
+            assert_eq!(checksum_of_octets(width, &[0xff]), Err(PARAMETER));
         }
         // Widths that are 8, 16 or 24 again in fewer places.
         for top in [1 << 8, 1 << 16, 1 << 32, 1 << 63] {

@@ -2,6 +2,7 @@
 
 mod broken;
 mod crc;
+mod crcoct;
 mod hosted;
 mod kinds;
 mod large;
@@ -150,6 +151,7 @@ mod tests {
     fn every_number_of_a_kind_is_asked_for() {
         for (kind, expected) in [
             ("crc", &[0, 8, 12][..]),
+            ("crcoct", &[0, 8]),
             ("profile", &[0, 5, 6]),
             ("plan", &[0, 5, 6, 7, 9]),
             ("encode", &[0, 5, 6, 8, 11, 12]),

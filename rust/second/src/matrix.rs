@@ -154,22 +154,13 @@ fn clear_elsewhere(rows: &mut [Row], one: usize, column: usize) {
 mod tests {
     use super::{Equations, Matrix, Row};
     use crate::random::Random;
+    use crate::samples::{binary, bits};
 
     fn matrix(rows: &[&[u8]]) -> Matrix {
         Matrix {
             rows: rows.iter().map(|row| Row::of(row)).collect(),
             columns: rows[0].len(),
         }
-    }
-
-    fn bits(count: usize, random: &mut Random) -> Vec<u8> {
-        (0..count).map(|_| random.pick(&[0, 1])).collect()
-    }
-
-    fn binary(number: usize, places: usize) -> Vec<u8> {
-        (0..places)
-            .map(|place| u8::from(number >> place & 1 == 1))
-            .collect()
     }
 
     #[test]

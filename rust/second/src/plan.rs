@@ -70,7 +70,7 @@ pub fn cut(profile: &Profile, octets: usize) -> Result<Plan, Number> {
 mod tests {
     use super::{block_octets, plan, Plan};
     use crate::numbers::{Number, BLOCK_LENGTH, MANY_BLOCKS, RECORD, STAIRCASE};
-    use crate::samples::{half, plain, TOY};
+    use crate::samples::{half, no_staircase, not_well_formed, plain, TOY};
 
     /// B, C, K and z in this order.
     fn numbers(record: &[u8], octets: u64) -> Result<[usize; 4], Number> {
@@ -228,12 +228,8 @@ mod tests {
 
     #[test]
     fn the_lowest_number_is_answered() {
-        let mut bad = TOY;
-        bad[10] = 2;
-        assert_eq!(numbers(&bad, 0), Err(RECORD));
-        let mut bad = TOY;
-        bad[11] = 0;
-        assert_eq!(numbers(&bad, 0), Err(STAIRCASE));
+        assert_eq!(numbers(&not_well_formed(), 0), Err(RECORD));
+        assert_eq!(numbers(&no_staircase(), 0), Err(STAIRCASE));
         // 2,049 octets would be too many blocks of the toy too.
         assert_eq!(numbers(&TOY, 2049), Err(BLOCK_LENGTH));
     }

@@ -12,6 +12,10 @@ pub enum Request {
         width: u64,
         bits: Vec<u8>,
     },
+    Crcoct {
+        width: u64,
+        octets: Vec<u8>,
+    },
     Profile {
         record: Vec<u8>,
     },
@@ -106,6 +110,7 @@ fn without_ending(line: &[u8]) -> &[u8] {
 fn named(name: &[u8], rest: &[&[u8]]) -> Result<Request, Fault> {
     match name {
         b"crc" => crc(rest),
+        b"crcoct" => crcoct(rest),
         b"profile" => profile(rest),
         b"plan" => plan(rest),
         b"encode" => encode(rest),
@@ -125,6 +130,14 @@ fn crc(rest: &[&[u8]]) -> Result<Request, Fault> {
     Ok(Request::Crc {
         width: words::number(width)?,
         bits: words::bits(bits)?,
+    })
+}
+
+fn crcoct(rest: &[&[u8]]) -> Result<Request, Fault> {
+    let [width, octets] = exactly(rest)?;
+    Ok(Request::Crcoct {
+        width: words::number(width)?,
+        octets: words::hex(octets, SHELF_ROOM)?,
     })
 }
 
@@ -281,6 +294,19 @@ mod tests {
     }
 
     #[test]
+    fn a_request_of_packed_octets_is_read() {
+        let crcoct = |width, octets: &[u8]| {
+            let octets = octets.to_vec();
+            Ok(Some(Request::Crcoct { width, octets }))
+        };
+        assert_eq!(request(b"crcoct 24 01fE"), crcoct(24, &[0x01, 0xfe]));
+        assert_eq!(request(b"crcoct 7 -"), crcoct(7, &[]));
+        assert_eq!(request(b"crcoct q 0"), Err(Fault::Number));
+        assert_eq!(request(b"crcoct 8 0"), Err(Fault::Hex));
+        assert_eq!(request(b"crcoct 8 x:00"), Err(Fault::Hex));
+    }
+
+    #[test]
     fn requests_about_a_record_are_read() {
         let record = vec![0x00, 0xfe];
         assert_eq!(
@@ -412,17 +438,20 @@ mod tests {
     }
 
     #[test]
-    fn a_record_has_room_for_70_000_octets() {
-        let asked = |digits: usize| request(&[b"profile ", &vec![b'0'; digits][..]].concat());
-        assert!(asked(2 * SHELF_ROOM).is_ok());
-        assert_eq!(asked(2 * SHELF_ROOM - 1), Err(Fault::Hex));
-        assert_eq!(asked(2 * SHELF_ROOM + 1), Err(Fault::Long));
+    fn a_record_and_packed_octets_have_room_for_70_000() {
+        for name in [&b"profile "[..], b"crcoct 8 "] {
+            let asked = |digits: usize| request(&[name, &vec![b'0'; digits]].concat());
+            assert!(asked(2 * SHELF_ROOM).is_ok());
+            assert_eq!(asked(2 * SHELF_ROOM - 1), Err(Fault::Hex));
+            assert_eq!(asked(2 * SHELF_ROOM + 1), Err(Fault::Long));
+        }
     }
 
     #[test]
     fn every_request_has_its_count_of_words() {
         for (name, count) in [
             ("crc", 2),
+            ("crcoct", 2),
             ("profile", 1),
             ("plan", 2),
             ("encode", 4),

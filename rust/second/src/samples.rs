@@ -1,6 +1,9 @@
-//! Records that are known from the documents: the toy, and Type 1 tables of 5G.212 v2.3.
+//! Records that are known from the documents: the toy, and Type 1 tables of 5G.212 v2.3. For tests also
+//! the toy spoiled, and single bits.
 
 use crate::draft::{with_staircase, Draft, Rows, EMPTY};
+#[cfg(test)]
+use crate::random::Random;
 
 /// The toy record of document 01, "Small profile and worked numbers".
 pub const TOY: [u8; 22] = [
@@ -93,6 +96,37 @@ pub fn plain(kb: u16, m: u16, sizes: &[u16]) -> Draft {
     let left = vec![vec![0; usize::from(kb)]; usize::from(m)];
     let table = |&z: &u16| (z, with_staircase(&left, u8::from(z > 1), 1));
     Draft::new(kb, m, sizes.iter().map(table).collect())
+}
+
+/// The toy with a shift that is not below its z.
+#[cfg(test)]
+pub fn not_well_formed() -> [u8; 22] {
+    let mut record = TOY;
+    record[10] = 2;
+    record
+}
+
+/// The toy with shift 1 where its staircase has to hold 0: row 0 of column kb + 1.
+#[cfg(test)]
+pub fn no_staircase() -> [u8; 22] {
+    let mut record = TOY;
+    record[12] = 1;
+    record
+}
+
+/// Single bits, at random.
+#[cfg(test)]
+pub fn bits(count: usize, random: &mut Random) -> Vec<u8> {
+    (0..count).map(|_| random.pick(&[0, 1])).collect()
+}
+
+/// The places of a number's binary digits, the highest first.
+#[cfg(test)]
+pub fn binary(number: u32, places: usize) -> Vec<u8> {
+    (0..places)
+        .rev()
+        .map(|place| u8::from(number >> place & 1 == 1))
+        .collect()
 }
 
 /// The numbers of each line.

@@ -32,7 +32,7 @@ fn the_examples_of_the_format_are_answered_as_it_says() {
         .lines()
         .filter_map(|line| line.strip_prefix("    "))
         .collect();
-    assert_eq!(examples.len(), 11, "one for each request");
+    assert_eq!(examples.len(), 12, "one for each request");
     let file = Path::new(env!("CARGO_TARGET_TMPDIR")).join("examples");
     fs::write(&file, examples.join("\n")).unwrap();
     let output = second(&["replay"], File::open(&file).unwrap().into());
@@ -71,8 +71,8 @@ fn generate_writes_lines() {
 #[test]
 fn generate_writes_lines_of_one_kind() {
     for kind in [
-        "crc", "profile", "plan", "encode", "check", "rate", "send", "recv", "lookup", "hsend",
-        "hrecv",
+        "crc", "crcoct", "profile", "plan", "encode", "check", "rate", "send", "recv", "lookup",
+        "hsend", "hrecv",
     ] {
         let output = second(&["generate", "2", "50", kind], Stdio::null());
         let text = String::from_utf8_lossy(&output.stdout);

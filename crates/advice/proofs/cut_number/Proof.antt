@@ -1,7 +1,8 @@
--- `advice::cut_number` meets its contract: its tests, in their order. Assumes nothing.
+-- `advice::cut_number` meets its contract: its tests, in their order.
 use mathlib.Core.Path.{sym, _∙_}
 use denote.Ref.{now}
 use borrow.Author.Needs.{needs}
+use Rattle.profile.proofs.Plans.{plan-number}
 use Rattle.advice.proofs.Numbers.{cut-first, cut-seven, cut-eight, cut-nine}
 use Rattle.advice.proofs.cut_number.Statement.{statement}
 use Rattle.advice.proofs.cut_number.Tie as tie
@@ -23,7 +24,7 @@ returns-2 c =
     let a = c .before .before .before .before .before .args in
     let zero = sym (c .before .before .before .judge .ensures) ∙ c .before .before .if1 .left in
     let plan = c .before .plan-accepted in
-    cut-seven (now (a .profile)) (a .octets) (a .nl) (a .qm) zero (plan .result .number) (plan .ensures .number) (c .if2 .taken)
+    cut-seven (now (a .profile)) (a .octets) (a .nl) (a .qm) zero (plan .result .number) (plan-number (now (a .profile)) (a .octets) (plan .result) (plan .ensures)) (c .if2 .taken)
 
 is-misallocated-requires : tie.Need-is-misallocated-requires
 is-misallocated-requires c κs = search needs
@@ -33,7 +34,7 @@ returns-3 c =
     let a = c .before .before .before .before .before .before .before .args in
     let zero = sym (c .before .before .before .before .before .judge .ensures) ∙ c .before .before .before .before .if1 .left in
     let plan = c .before .before .before .plan-accepted in
-    cut-eight (now (a .profile)) (a .octets) (a .nl) (a .qm) zero (plan .result .number) (plan .ensures .number) (c .before .before .if2 .left)
+    cut-eight (now (a .profile)) (a .octets) (a .nl) (a .qm) zero (plan .result .number) (plan-number (now (a .profile)) (a .octets) (plan .result) (plan .ensures)) (c .before .before .if2 .left)
     (sym (c .before .is-misallocated .ensures) ∙ c .if3 .taken)
 
 returns-4 : tie.Need-returns-4
@@ -41,7 +42,7 @@ returns-4 c =
     let a = c .before .before .before .before .before .before .before .args in
     let zero = sym (c .before .before .before .before .before .judge .ensures) ∙ c .before .before .before .before .if1 .left in
     let plan = c .before .before .before .plan-accepted in
-    cut-nine (now (a .profile)) (a .octets) (a .nl) (a .qm) zero (plan .result .number) (plan .ensures .number) (c .before .before .if2 .left)
+    cut-nine (now (a .profile)) (a .octets) (a .nl) (a .qm) zero (plan .result .number) (plan-number (now (a .profile)) (a .octets) (plan .result) (plan .ensures)) (c .before .before .if2 .left)
     (sym (c .before .is-misallocated .ensures) ∙ c .if3 .left)
 
 pub cut-number-spec : {M : Type 1} → statement M

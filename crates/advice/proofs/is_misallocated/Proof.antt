@@ -1,4 +1,4 @@
--- `advice::is_misallocated` meets its contract: its tests, in their order. Assumes nothing.
+-- `advice::is_misallocated` meets its contract: its tests, in their order.
 use mathlib.Core.Path.{_≡_, sym}
 use mathlib.Core.Bool.{Bool, true, false, not, _||_}
 use Prim.Native.Nat.{ℕ, _≤_}

@@ -1,4 +1,4 @@
--- `advice::is_order` meets its contract. Assumes nothing.
+-- `advice::is_order` meets its contract.
 use borrow.Author.Tests.{eq-eqb, ne-eqb}
 use Rattle.advice.proofs.is_order.Statement.{statement}
 use Rattle.advice.proofs.is_order.Tie as tie

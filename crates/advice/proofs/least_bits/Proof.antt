@@ -1,4 +1,4 @@
--- `advice::least_bits` meets its contract. Assumes nothing.
+-- `advice::least_bits` meets its contract.
 use mathlib.Core.Path.{sym, _∙_}
 use denote.Ref.{now}
 use borrow.Author.Needs.{needs}

@@ -1,4 +1,4 @@
--- `advice::most_sendable` meets its contract. Assumes nothing.
+-- `advice::most_sendable` meets its contract.
 use mathlib.Core.Path.{_≡_, ap₂, _∙_}
 use mathlib.Core.List.{List}
 use Prim.Native.Nat.{ℕ, _+_, _-_, _*_, _≤_, _<_}
@@ -6,34 +6,33 @@ use native.Mathlib.Nat.{add-mul}
 use native.Mathlib.Omega.{arith}
 use denote.Ref.{now}
 use borrow.Author.Needs.{needs}
-use Rattle.bits.proofs.Answers.{when-done}
 use Rattle.profile.specs.Record.{kb, m, z}
-use Rattle.profile.specs.Plan.{blockBits, blocks, ownBits, whichSize, places, filler}
-use Rattle.profile.specs.Promises.{planNumber, Planned}
+use Rattle.profile.specs.Plan.{blockBits, blocks, ownBits, sizeIndex, places, filler}
+use Rattle.profile.specs.Promises.{planNumber, planned}
 use Rattle.profile.specs.declared.Plan.{Plan}
-use Rattle.profile.proofs.Plans.{Cut, plan-passed, plan-cut}
+use Rattle.profile.proofs.Plans.{Cut, plan-passed, plan-cut, plan-bits, plan-blocks, plan-places, plan-z}
 use Rattle.coding.specs.Blocks.{sendable}
-use Rattle.advice.specs.steps.Telling.{mostSendable}
+use Rattle.advice.specs.steps.Counting.{mostSendable}
 use Rattle.advice.proofs.Room.{few-sendable}
 use Rattle.advice.proofs.most_sendable.Statement.{statement}
 use Rattle.advice.proofs.most_sendable.Tie as tie
 
 -- the plan, and the profile's parts as they are read
-module _ (R : List ℕ) (octets : ℕ) (p : Plan) (e : planNumber R octets ≡ 0) (plan : Planned R octets p) where
+module _ (R : List ℕ) (octets : ℕ) (p : Plan) (e : planNumber R octets ≡ 0) (plan : p ≡ planned R octets) where
   cut : Cut R (blockBits octets)
   cut = plan-cut R octets e
 
   bits-is : p .bits ≡ blockBits octets
-  bits-is = plan .bits ∙ when-done _ _ _ e
+  bits-is = plan-bits R octets p plan e
 
   blocks-is : p .blocks ≡ blocks R (blockBits octets)
-  blocks-is = plan .blocks ∙ when-done _ _ _ e
+  blocks-is = plan-blocks R octets p plan e
 
   places-is : p .places ≡ places R (blockBits octets)
-  places-is = plan .places ∙ when-done _ _ _ e
+  places-is = plan-places R octets p plan e
 
-  z-is : p .z ≡ z R (whichSize R (blockBits octets))
-  z-is = plan .z ∙ when-done _ _ _ e
+  z-is : p .z ≡ z R (sizeIndex R (blockBits octets))
+  z-is = plan-z R octets p plan e
 
   asked : (p .bits ≤ 16408) × (0 < p .blocks) × (p .blocks ≤ 64)
   asked = (omega (arith, bits-is, cut .bits-high), omega (arith, blocks-is, cut .some), omega (arith, blocks-is, cut .most))
@@ -45,7 +44,7 @@ module _ (R : List ℕ) (octets : ℕ) (p : Plan) (e : planNumber R octets ≡ 0
     filler-fits : (own : ℕ) → p .places - own ≤ (kb' + m') * p .z
     filler-fits own =
         rw (kb-is, m-is, z-is, places-is)
-        (omega (arith, cut .product, add-mul (kb R) (m R) (z R (whichSize R (blockBits octets)))))
+        (omega (arith, cut .product, add-mul (kb R) (m R) (z R (sizeIndex R (blockBits octets)))))
 
   -- a block's own bits
   module _ (r own : ℕ) (own-is : own ≡ ownBits (p .bits) (p .blocks) r) where
@@ -72,25 +71,25 @@ own-bits-requires c κs =
     let a = st .args in
     asked (now (a .profile)) (a .octets) (a .plan) (st .pre .0) (st .pre .1)
 
-add-result : tie.Need-add-result
-add-result c = search needs
+add-most : tie.Need-add-most
+add-most c = search needs
 
-mul-result : tie.Need-mul-result
-mul-result c =
+mul-most : tie.Need-mul-most
+mul-most c =
     let own = c .before in
     let st = own .before .before .before .before in
     let a = st .args in
     omega (arith, most (now (a .profile)) (a .octets) (a .plan) (st .pre .0) (st .pre .1) _ _ (own .before .before .kb .ensures .0) (own .before .m .ensures .0))
 
-sub-result : tie.Need-sub-result
-sub-result c =
+sub-most : tie.Need-sub-most
+sub-most c =
     let own = c .before .before in
     let st = own .before .before .before .before in
     let a = st .args in
     own-fits (now (a .profile)) (a .octets) (a .plan) (st .pre .0) (st .pre .1) _ _ (own .own-bits .ensures)
 
-sub-result-2 : tie.Need-sub-result-2
-sub-result-2 c =
+sub-most-2 : tie.Need-sub-most-2
+sub-most-2 c =
     let own = c .before .before in
     let st = own .before .before .before .before in
     let a = st .args in
@@ -112,8 +111,8 @@ most-sendable-spec =
     kb-requires
     m-requires
     own-bits-requires
-    add-result
-    mul-result
-    sub-result
-    sub-result-2
+    add-most
+    mul-most
+    sub-most
+    sub-most-2
     returns)

@@ -1,6 +1,6 @@
--- `advice::refused` meets its contract. Assumes nothing.
+-- `advice::refused` meets its contract.
 use mathlib.Core.Path.{refl}
-use Rattle.advice.specs.steps.Telling.{refusal}
+use Rattle.advice.specs.steps.Counting.{refusal}
 use Rattle.advice.proofs.refused.Statement.{statement}
 use Rattle.advice.proofs.refused.Tie as tie
 

@@ -1,4 +1,4 @@
--- `checksum::bits_number` meets its contract: its two tests, in their order. Assumes nothing.
+-- `checksum::bits_number` meets its contract: its two tests, in their order.
 use mathlib.Core.Path.{_≡_}
 use mathlib.Core.Bool.{true, false}
 use borrow.Author.Needs.{needs}

@@ -1,4 +1,4 @@
--- `checksum::generator_of` meets its contract. Assumes nothing.
+-- `checksum::generator_of` meets its contract.
 use borrow.Author.Tests.{eq-eqb, ne-eqb}
 use Rattle.checksum.specs.Promises.{generator}
 use Rattle.checksum.proofs.generator_of.Statement.{statement}

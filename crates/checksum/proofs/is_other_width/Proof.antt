@@ -1,4 +1,4 @@
--- `checksum::is_other_width` meets its contract. Assumes nothing.
+-- `checksum::is_other_width` meets its contract.
 use borrow.Author.Needs.{needs}
 use Rattle.checksum.proofs.Answers.{no-generator}
 use Rattle.checksum.proofs.is_other_width.Statement.{statement}

@@ -1,4 +1,4 @@
--- `checksum::of_octets` meets its contract. Assumes nothing.
+-- `checksum::of_octets` meets its contract.
 use mathlib.Core.Path.{sym, ap, _∙_}
 use Prim.Native.Nat.{ℕ}
 use native.Mathlib.Omega.{arith}

@@ -4,9 +4,9 @@ use mathlib.Core.List.{List}
 use Prim.Native.Nat.{ℕ, _-_}
 use lib.Dec.{eqb}
 use lib.ListN.{length, take, drop}
-use Rattle.bits.specs.Bits.{number}
+use Rattle.bits.specs.Bits.{valueOf}
 use Rattle.checksum.specs.Crc.{checksum}
 
 -- recompute and compare: the last w bits are the checksum of those before them
 unfoldable pub checks : ℕ → ℕ → List ℕ → Bool
-checks w g b = eqb (checksum w g (take (length b - w) b)) (number (drop (length b - w) b))
+checks w g b = eqb (checksum w g (take (length b - w) b)) (valueOf (drop (length b - w) b))

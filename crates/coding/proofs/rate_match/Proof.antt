@@ -1,4 +1,4 @@
--- `coding::rate_match` meets its contract. Assumes nothing.
+-- `coding::rate_match` meets its contract.
 use mathlib.Core.Path.{sym, _∙_}
 use denote.Ref.{now}
 use borrow.Author.Needs.{needs}

@@ -1,25 +1,24 @@
--- `coding::receive_through` meets its contract. Assumes nothing.
-use mathlib.Core.Path.{_≡_, refl, sym, ap, ap₂, _∙_, subst}
-use mathlib.Core.Bool.{true, false, true≢false}
+-- `coding::receive_through` meets its contract.
+use mathlib.Core.Path.{_≡_, sym, ap, _∙_, subst}
+use mathlib.Core.Bool.{true, true≢false}
 use mathlib.Core.List.{List}
-use Prim.Native.Nat.{ℕ, _+_, _*_, _≤_, _<_}
+use Prim.Native.Nat.{ℕ, _<_}
 use native.Mathlib.Omega.{arith}
+use lib.Dec.{lit<, lit≤}
 use lib.ListN.{length, getD, take}
 use lib.Seq.{sets, length-take-le}
 use denote.Ref.{now}
 use borrow.Author.Tests.{not-true, not-false}
 use borrow.Author.Needs.{needs}
 use Rattle.bits.specs.Bits.{packed}
-use Rattle.bits.proofs.Answers.{when-done}
 use Rattle.checksum.specs.Crc.{gen24A}
 use Rattle.checksum.specs.steps.Testing.{checks}
 use Rattle.profile.specs.Plan.{blockBits}
 use Rattle.profile.proofs.Plans.{plan-passed}
-use Rattle.coding.specs.steps.Sending.{allHaveParity, bitsSent}
 use Rattle.coding.specs.steps.Receiving.{gathered}
-use Rattle.coding.proofs.Gathered.{gathered-length, gathered-bits}
+use Rattle.coding.proofs.Gathered.{has-room-of, gathered-length, gathered-bits}
+use Rattle.coding.proofs.PlanFields.{bits-is}
 use Rattle.coding.proofs.Received.{decided-unsent, decided-found}
-use Rattle.coding.proofs.Transported.{generator-24}
 use Rattle.coding.proofs.receive_through.Statement.{statement}
 use Rattle.coding.proofs.receive_through.Tie as tie
 
@@ -40,8 +39,8 @@ rebuild-bits-requires c κs = let st = c .before .before .before .before .before
     let h = st .pre .0 in
     let ok = plan-passed R (a .octets) (h .taken) in
     let plan = c .before .plan-accepted in
-    let count : plan .result .bits ≡ blockBits (a .octets) = plan .ensures .bits ∙ when-done _ _ _ (h .taken) in
-    (record { octets = a .octets; heard = h; plan = plan .ensures }, st .pre .1)
+    let count : plan .result .bits ≡ blockBits (a .octets) = bits-is R (a .octets) (plan .result) (plan .ensures) (h .taken) in
+    (record { octets = a .octets; receivable = h; plan = plan .ensures }, st .pre .1)
 
 same-length : tie.Need-same-length
 same-length c = search needs
@@ -54,7 +53,7 @@ returns c = let st = c .before .before .before .before .before .before .before .
     let h = st .pre .0 in
     let ok = plan-passed R (a .octets) (h .taken) in
     let plan = c .before .before .before .before .before .plan-accepted in
-    let count : plan .result .bits ≡ blockBits (a .octets) = plan .ensures .bits ∙ when-done _ _ _ (h .taken) in
+    let count : plan .result .bits ≡ blockBits (a .octets) = bits-is R (a .octets) (plan .result) (plan .ensures) (h .taken) in
     let tried = c .before .before .before .rebuild-bits in
     let long = tried .kept .1 .1 .1 .1 .1 .0 in
     let told = rw count at (tried .ensures .other (not-true _ (c .if1 .taken))) in
@@ -69,7 +68,7 @@ slice-reshare-prefix-is-attached c = let st = c .before .before .before .before 
     let h = st .pre .0 in
     let ok = plan-passed R (a .octets) (h .taken) in
     let plan = c .before .before .before .before .before .plan-accepted in
-    let count : plan .result .bits ≡ blockBits (a .octets) = plan .ensures .bits ∙ when-done _ _ _ (h .taken) in
+    let count : plan .result .bits ≡ blockBits (a .octets) = bits-is R (a .octets) (plan .result) (plan .ensures) (h .taken) in
     let tried = c .before .before .before .rebuild-bits in
     let long = tried .kept .1 .1 .1 .1 .1 .0 in
     omega (arith, count, ok .2, st .pre .1, long)
@@ -83,7 +82,7 @@ slice-aggregate-is-attached c = let st = c .before .before .before .before .befo
     let h = st .pre .0 in
     let ok = plan-passed R (a .octets) (h .taken) in
     let plan = c .before .before .before .before .before .before .plan-accepted in
-    let count : plan .result .bits ≡ blockBits (a .octets) = plan .ensures .bits ∙ when-done _ _ _ (h .taken) in
+    let count : plan .result .bits ≡ blockBits (a .octets) = bits-is R (a .octets) (plan .result) (plan .ensures) (h .taken) in
     let tried = c .before .before .before .before .rebuild-bits in
     let long = tried .kept .1 .1 .1 .1 .1 .0 in
     sym (length-take-le (plan .result .bits) (tried .last .1 .1 .1 .1 .1 .0) (omega (arith, count, ok .2, st .pre .1, long)))
@@ -97,15 +96,15 @@ is-attached-requires c κs = let st = c .before .before .before .before .before 
     let h = st .pre .0 in
     let ok = plan-passed R (a .octets) (h .taken) in
     let plan = c .before .before .before .before .before .before .plan-accepted in
-    let count : plan .result .bits ≡ blockBits (a .octets) = plan .ensures .bits ∙ when-done _ _ _ (h .taken) in
+    let count : plan .result .bits ≡ blockBits (a .octets) = bits-is R (a .octets) (plan .result) (plan .ensures) (h .taken) in
     let tried = c .before .before .before .before .rebuild-bits in
     let long = tried .kept .1 .1 .1 .1 .1 .0 in
     let is = rw count at (tried .ensures .sent (not-false _ (c .before .if1 .left))) in
     let t = gathered R (blockBits (a .octets)) (a .nl) (a .qm) s in
     let front : take (plan .result .bits) (tried .last .1 .1 .1 .1 .1 .0) ≡ t = ap (λ (n : ℕ). take n (tried .last .1 .1 .1 .1 .1 .0)) count ∙ is .2 in
-    let single = gathered-bits R (a .octets) (a .nl) (a .qm) s h in
-    let size : length t ≡ blockBits (a .octets) = gathered-length R (a .octets) (a .nl) (a .qm) s h in
-    (generator-24, rw (front, size) (omega arith), λ k. subst (λ (l : List ℕ). getD l k 0 < 2) (sym front) (single k))
+    let single = gathered-bits R (blockBits (a .octets)) (a .nl) (a .qm) s (has-room-of R (a .octets) (a .nl) (a .qm) s h) in
+    let size : length t ≡ blockBits (a .octets) = gathered-length R (blockBits (a .octets)) (a .nl) (a .qm) s (has-room-of R (a .octets) (a .nl) (a .qm) s h) in
+    (record { some = lit< tt; most = lit≤ tt; below = lit< tt }, rw (front, size) (omega arith), λ k. subst (λ (l : List ℕ). getD l k 0 < 2) (sym front) (single k))
 
 same-length-2 : tie.Need-same-length-2
 same-length-2 c = search needs
@@ -118,14 +117,14 @@ returns-2 c = let st = c .before .before .before .before .before .before .before
     let h = st .pre .0 in
     let ok = plan-passed R (a .octets) (h .taken) in
     let plan = c .before .before .before .before .before .before .before .before .plan-accepted in
-    let count : plan .result .bits ≡ blockBits (a .octets) = plan .ensures .bits ∙ when-done _ _ _ (h .taken) in
+    let count : plan .result .bits ≡ blockBits (a .octets) = bits-is R (a .octets) (plan .result) (plan .ensures) (h .taken) in
     let tried = c .before .before .before .before .before .before .rebuild-bits in
     let long = tried .kept .1 .1 .1 .1 .1 .0 in
     let is = rw count at (tried .ensures .sent (not-false _ (c .before .before .before .if1 .left))) in
     let t = gathered R (blockBits (a .octets)) (a .nl) (a .qm) s in
     let front : take (plan .result .bits) (tried .last .1 .1 .1 .1 .1 .0) ≡ t = ap (λ (n : ℕ). take n (tried .last .1 .1 .1 .1 .1 .0)) count ∙ is .2 in
-    let single = gathered-bits R (a .octets) (a .nl) (a .qm) s h in
-    let size : length t ≡ blockBits (a .octets) = gathered-length R (a .octets) (a .nl) (a .qm) s h in
+    let single = gathered-bits R (blockBits (a .octets)) (a .nl) (a .qm) s (has-room-of R (a .octets) (a .nl) (a .qm) s h) in
+    let size : length t ≡ blockBits (a .octets) = gathered-length R (blockBits (a .octets)) (a .nl) (a .qm) s (has-room-of R (a .octets) (a .nl) (a .qm) s h) in
     let told = c .before .is-attached .ensures in
     decided-unsent R (a .octets) (a .nl) (a .qm) s h
     (λ parity all sum. true≢false (sym sum ∙ ap (checks 24 gen24A) (sym front) ∙ sym told ∙ not-true _ (c .if2 .taken))) (now (a .out))
@@ -139,7 +138,7 @@ slice-reshare-prefix-pack c = let st = c .before .before .before .before .before
     let h = st .pre .0 in
     let ok = plan-passed R (a .octets) (h .taken) in
     let plan = c .before .before .before .before .before .before .before .before .plan-accepted in
-    let count : plan .result .bits ≡ blockBits (a .octets) = plan .ensures .bits ∙ when-done _ _ _ (h .taken) in
+    let count : plan .result .bits ≡ blockBits (a .octets) = bits-is R (a .octets) (plan .result) (plan .ensures) (h .taken) in
     let tried = c .before .before .before .before .before .before .rebuild-bits in
     let long = tried .kept .1 .1 .1 .1 .1 .0 in
     omega (arith, count, ok .2, st .pre .1, long)
@@ -153,7 +152,7 @@ slice-aggregate-pack c = let st = c .before .before .before .before .before .bef
     let h = st .pre .0 in
     let ok = plan-passed R (a .octets) (h .taken) in
     let plan = c .before .before .before .before .before .before .before .before .before .plan-accepted in
-    let count : plan .result .bits ≡ blockBits (a .octets) = plan .ensures .bits ∙ when-done _ _ _ (h .taken) in
+    let count : plan .result .bits ≡ blockBits (a .octets) = bits-is R (a .octets) (plan .result) (plan .ensures) (h .taken) in
     let tried = c .before .before .before .before .before .before .before .rebuild-bits in
     let long = tried .kept .1 .1 .1 .1 .1 .0 in
     sym (length-take-le (plan .result .bits) (tried .last .1 .1 .1 .1 .1 .0) (omega (arith, count, ok .2, st .pre .1, long)))
@@ -167,14 +166,14 @@ pack-requires c κs = let st = c .before .before .before .before .before .before
     let h = st .pre .0 in
     let ok = plan-passed R (a .octets) (h .taken) in
     let plan = c .before .before .before .before .before .before .before .before .before .before .plan-accepted in
-    let count : plan .result .bits ≡ blockBits (a .octets) = plan .ensures .bits ∙ when-done _ _ _ (h .taken) in
+    let count : plan .result .bits ≡ blockBits (a .octets) = bits-is R (a .octets) (plan .result) (plan .ensures) (h .taken) in
     let tried = c .before .before .before .before .before .before .before .before .rebuild-bits in
     let long = tried .kept .1 .1 .1 .1 .1 .0 in
     let is = rw count at (tried .ensures .sent (not-false _ (c .before .before .before .before .before .if1 .left))) in
     let t = gathered R (blockBits (a .octets)) (a .nl) (a .qm) s in
     let front : take (plan .result .bits) (tried .last .1 .1 .1 .1 .1 .0) ≡ t = ap (λ (n : ℕ). take n (tried .last .1 .1 .1 .1 .1 .0)) count ∙ is .2 in
-    let single = gathered-bits R (a .octets) (a .nl) (a .qm) s h in
-    let size : length t ≡ blockBits (a .octets) = gathered-length R (a .octets) (a .nl) (a .qm) s h in
+    let single = gathered-bits R (blockBits (a .octets)) (a .nl) (a .qm) s (has-room-of R (a .octets) (a .nl) (a .qm) s h) in
+    let size : length t ≡ blockBits (a .octets) = gathered-length R (blockBits (a .octets)) (a .nl) (a .qm) s (has-room-of R (a .octets) (a .nl) (a .qm) s h) in
     (st .pre .2, rw (front, size) (omega arith), λ k. subst (λ (l : List ℕ). getD l k 0 < 2) (sym front) (single k))
 
 same-length-3 : tie.Need-same-length-3
@@ -191,14 +190,14 @@ returns-3 c = let st = c .before .before .before .before .before .before .before
     let h = st .pre .0 in
     let ok = plan-passed R (a .octets) (h .taken) in
     let plan = c .before .before .before .before .before .before .before .before .before .before .before .before .before .plan-accepted in
-    let count : plan .result .bits ≡ blockBits (a .octets) = plan .ensures .bits ∙ when-done _ _ _ (h .taken) in
+    let count : plan .result .bits ≡ blockBits (a .octets) = bits-is R (a .octets) (plan .result) (plan .ensures) (h .taken) in
     let tried = c .before .before .before .before .before .before .before .before .before .before .before .rebuild-bits in
     let long = tried .kept .1 .1 .1 .1 .1 .0 in
     let is = rw count at (tried .ensures .sent (not-false _ (c .before .before .before .before .before .before .before .before .if1 .left))) in
     let t = gathered R (blockBits (a .octets)) (a .nl) (a .qm) s in
     let front : take (plan .result .bits) (tried .last .1 .1 .1 .1 .1 .0) ≡ t = ap (λ (n : ℕ). take n (tried .last .1 .1 .1 .1 .1 .0)) count ∙ is .2 in
-    let single = gathered-bits R (a .octets) (a .nl) (a .qm) s h in
-    let size : length t ≡ blockBits (a .octets) = gathered-length R (a .octets) (a .nl) (a .qm) s h in
+    let single = gathered-bits R (blockBits (a .octets)) (a .nl) (a .qm) s (has-room-of R (a .octets) (a .nl) (a .qm) s h) in
+    let size : length t ≡ blockBits (a .octets) = gathered-length R (blockBits (a .octets)) (a .nl) (a .qm) s (has-room-of R (a .octets) (a .nl) (a .qm) s h) in
     let told = c .before .before .before .before .before .before .is-attached .ensures in
     let sum : checks 24 gen24A t ≡ true = ap (checks 24 gen24A) (sym front) ∙ sym told ∙ not-false _ (c .before .before .before .before .before .if2 .left) in
     decided-found R (a .octets) (a .nl) (a .qm) s h (is .0) (is .1) sum (now (a .out)) _ (st .pre .2)

@@ -1,4 +1,4 @@
--- `coding::send` meets its contract. Assumes nothing.
+-- `coding::send` meets its contract.
 use mathlib.Core.Path.{sym, _∙_}
 use denote.Ref.{now}
 use borrow.Author.Needs.{needs}
@@ -6,25 +6,25 @@ use Rattle.coding.proofs.Answers.{send-first, send-refused}
 use Rattle.coding.proofs.send.Statement.{statement}
 use Rattle.coding.proofs.send.Tie as tie
 
-taken-number-requires : tie.Need-taken-number-requires
-taken-number-requires c κs = search needs
+request-number-requires : tie.Need-request-number-requires
+request-number-requires c κs = search needs
 
 returns : tie.Need-returns
 returns c =
     let a = c .before .before .before .before .before .args in
-    let taken = c .before .taken-number in
-    let first = send-first (now (a .profile)) (now (a .block)) (a .nl) (a .qm) (a .g .0) (now (a .out)) (λ z. c .if1 .taken (taken .ensures ∙ z)) in
-    send-refused (now (a .profile)) (now (a .block)) (a .nl) (a .qm) (a .g .0) (now (a .out)) (taken .result) (taken .ensures ∙ first) (c .if1 .taken)
+    let number = c .before .request-number in
+    let first = send-first (now (a .profile)) (now (a .block)) (a .nl) (a .qm) (a .g .0) (now (a .out)) (λ z. c .if1 .taken (number .ensures ∙ z)) in
+    send-refused (now (a .profile)) (now (a .block)) (a .nl) (a .qm) (a .g .0) (now (a .out)) (number .result) (number .ensures ∙ first) (c .if1 .taken)
 
-send-taken-requires : tie.Need-send-taken-requires
-send-taken-requires c κs = sym (c .before .before .taken-number .ensures) ∙ c .before .if1 .left
+send-accepted-requires : tie.Need-send-accepted-requires
+send-accepted-requires c κs = sym (c .before .before .request-number .ensures) ∙ c .before .if1 .left
 
 same-length : tie.Need-same-length
 same-length c = search needs
 
 returns-2 : tie.Need-returns-2
-returns-2 c = c .before .before .send-taken .ensures
+returns-2 c = c .before .before .send-accepted .ensures
 
 pub send-spec : {M : Type 1} → statement M
 send-spec =
-    tie.close (tie.spec taken-number-requires returns send-taken-requires same-length returns-2)
+    tie.close (tie.spec request-number-requires returns send-accepted-requires same-length returns-2)

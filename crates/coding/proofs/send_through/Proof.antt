@@ -1,4 +1,4 @@
--- `coding::send_through` meets its contract. Assumes nothing.
+-- `coding::send_through` meets its contract.
 use mathlib.Core.Path.{_≡_, sym, ap, _∙_}
 use Prim.Native.Nat.{_<_}
 use native.Mathlib.Omega.{arith}
@@ -6,12 +6,12 @@ use lib.ListN.{length, take}
 use lib.Seq.{length-take-le}
 use denote.Ref.{now}
 use borrow.Author.Needs.{needs}
-use Rattle.bits.proofs.Answers.{when-done}
 use Rattle.profile.specs.Plan.{blockBits}
 use Rattle.profile.proofs.Plans.{plan-passed, plan-cut}
 use Rattle.coding.specs.Transport.{transport}
 use Rattle.coding.proofs.Shares.{allocated}
-use Rattle.coding.proofs.Taken.{taken-passed}
+use Rattle.coding.proofs.PlanFields.{bits-is, blocks-are}
+use Rattle.coding.proofs.RequestNumber.{request-passed}
 use Rattle.coding.proofs.Transported.{generator-24, length-transport, front-set, ready-transport, sent-whole}
 use Rattle.coding.proofs.send_through.Statement.{statement}
 use Rattle.coding.proofs.send_through.Tie as tie
@@ -22,7 +22,7 @@ plan-accepted-requires c κs =
     let a = st .args in
     let R = now (a .profile) in
     let block = now (a .block) in
-    let ok = taken-passed R (length block) (a .nl) (a .qm) (a .g .0) (a .g .0) (length (now (a .out))) (st .pre .0) in
+    let ok = request-passed R (length block) (a .nl) (a .qm) (a .g .0) (a .g .0) (length (now (a .out))) (st .pre .0) in
     plan-passed R (length block) (ok .0) .0
 
 attach-requires : tie.Need-attach-requires
@@ -31,7 +31,7 @@ attach-requires c κs =
     let a = st .args in
     let R = now (a .profile) in
     let block = now (a .block) in
-    let ok = taken-passed R (length block) (a .nl) (a .qm) (a .g .0) (a .g .0) (length (now (a .out))) (st .pre .0) in
+    let ok = request-passed R (length block) (a .nl) (a .qm) (a .g .0) (a .g .0) (length (now (a .out))) (st .pre .0) in
     let most = plan-passed R (length block) (ok .0) .2 in
     (generator-24, omega (arith, most, st .pre .1))
 
@@ -42,10 +42,10 @@ slice-reshare-prefix-send-bits c =
     let a = st .args in
     let R = now (a .profile) in
     let block = now (a .block) in
-    let ok = taken-passed R (length block) (a .nl) (a .qm) (a .g .0) (a .g .0) (length (now (a .out))) (st .pre .0) in
+    let ok = request-passed R (length block) (a .nl) (a .qm) (a .g .0) (a .g .0) (length (now (a .out))) (st .pre .0) in
     let plan = c .before .before .before .before .plan-accepted in
     let attach = c .before .before .attach in
-    let count : plan .result .bits ≡ blockBits (length block) = plan .ensures .bits ∙ when-done _ _ _ (ok .0) in
+    let count : plan .result .bits ≡ blockBits (length block) = bits-is R (length block) (plan .result) (plan .ensures) (ok .0) in
     let most = plan-passed R (length block) (ok .0) .2 in
     omega (arith, count, most, st .pre .1, attach .kept .1 .1 .1 .0)
 
@@ -56,10 +56,10 @@ slice-aggregate-send-bits c =
     let a = st .args in
     let R = now (a .profile) in
     let block = now (a .block) in
-    let ok = taken-passed R (length block) (a .nl) (a .qm) (a .g .0) (a .g .0) (length (now (a .out))) (st .pre .0) in
+    let ok = request-passed R (length block) (a .nl) (a .qm) (a .g .0) (a .g .0) (length (now (a .out))) (st .pre .0) in
     let plan = c .before .before .before .before .before .plan-accepted in
     let attach = c .before .before .before .attach in
-    let count : plan .result .bits ≡ blockBits (length block) = plan .ensures .bits ∙ when-done _ _ _ (ok .0) in
+    let count : plan .result .bits ≡ blockBits (length block) = bits-is R (length block) (plan .result) (plan .ensures) (ok .0) in
     let most = plan-passed R (length block) (ok .0) .2 in
     sym (length-take-le (plan .result .bits) (attach .last .1 .1 .1 .0) (omega (arith, count, most, st .pre .1, attach .kept .1 .1 .1 .0)))
 
@@ -70,14 +70,14 @@ send-bits-requires c κs =
     let a = st .args in
     let R = now (a .profile) in
     let block = now (a .block) in
-    let ok = taken-passed R (length block) (a .nl) (a .qm) (a .g .0) (a .g .0) (length (now (a .out))) (st .pre .0) in
+    let ok = request-passed R (length block) (a .nl) (a .qm) (a .g .0) (a .g .0) (length (now (a .out))) (st .pre .0) in
     let plan = c .before .before .before .before .before .before .plan-accepted in
     let attach = c .before .before .before .before .attach in
-    let count : plan .result .bits ≡ blockBits (length block) = plan .ensures .bits ∙ when-done _ _ _ (ok .0) in
+    let count : plan .result .bits ≡ blockBits (length block) = bits-is R (length block) (plan .result) (plan .ensures) (ok .0) in
     let most = plan-passed R (length block) (ok .0) .2 in
     let same : take (plan .result .bits) (attach .last .1 .1 .1 .0) ≡ transport block =
     ap (take (plan .result .bits)) (attach .ensures) ∙ front-set (now (a .bits)) (transport block) (plan .result .bits) (length-transport block ∙ sym count) (omega (arith, count, most, st .pre .1)) in
-    let some : 0 < plan .result .blocks = omega (arith, plan .ensures .blocks ∙ when-done _ _ _ (ok .0), plan-cut R (length block) (ok .0) .some) in
+    let some : 0 < plan .result .blocks = omega (arith, blocks-are R (length block) (plan .result) (plan .ensures) (ok .0), plan-cut R (length block) (ok .0) .some) in
     (rw same (ready-transport R block (plan .result) (ok .0) (plan .ensures)), allocated (a .nl) (a .qm) (a .g .0) (plan .result .blocks) (ok .1) some, ok .2)
 
 same-length : tie.Need-same-length
@@ -93,15 +93,15 @@ returns c =
     let a = st .args in
     let R = now (a .profile) in
     let block = now (a .block) in
-    let ok = taken-passed R (length block) (a .nl) (a .qm) (a .g .0) (a .g .0) (length (now (a .out))) (st .pre .0) in
+    let ok = request-passed R (length block) (a .nl) (a .qm) (a .g .0) (a .g .0) (length (now (a .out))) (st .pre .0) in
     let plan = c .before .before .before .before .before .before .before .before .before .plan-accepted in
     let attach = c .before .before .before .before .before .before .before .attach in
-    let count : plan .result .bits ≡ blockBits (length block) = plan .ensures .bits ∙ when-done _ _ _ (ok .0) in
+    let count : plan .result .bits ≡ blockBits (length block) = bits-is R (length block) (plan .result) (plan .ensures) (ok .0) in
     let most = plan-passed R (length block) (ok .0) .2 in
     let same : take (plan .result .bits) (attach .last .1 .1 .1 .0) ≡ transport block =
     ap (take (plan .result .bits)) (attach .ensures) ∙ front-set (now (a .bits)) (transport block) (plan .result .bits) (length-transport block ∙ sym count) (omega (arith, count, most, st .pre .1)) in
     let sent = c .before .before .send-bits in
-    sent-whole R block (a .nl) (a .qm) (a .g .0) (now (a .out)) (sent .result) (sent .last .1 .1 .1 .1 .1 .1 .0) (st .pre .0) (rw same at (sent .ensures))
+    sent-whole R block (a .nl) (a .qm) (a .g .0) (now (a .out)) (sent .result) (sent .last .1 .1 .1 .1 .1 .1 .0) (st .pre .0) (rw (same, count) at (sent .ensures))
 
 pub send-through-spec : {M : Type 1} → statement M
 send-through-spec =

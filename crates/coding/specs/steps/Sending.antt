@@ -1,35 +1,30 @@
 -- What the steps of sending promise each other.
 use mathlib.Core.Path.{_≡_}
-use mathlib.Core.Bool.{Bool, true, false, not}
-use mathlib.Core.List.{List, [], _∷_, _++_}
-use Prim.Native.Nat.{ℕ, _-_, _*_, _≤_, _<_}
-use lib.Dec.{ltb}
-use lib.ListN.{length, getD, take, drop, replicate}
+use mathlib.Core.Bool.{true, false, not}
+use mathlib.Core.List.{List, _++_}
+use Prim.Native.Nat.{ℕ, _*_, _≤_, _<_}
+use lib.ListN.{length, getD, drop}
 use Rattle.bits.specs.Bits.{AreBits}
 use Rattle.bits.specs.Numbers.{answered}
-use Rattle.bits.specs.Ranges.{allTo}
 use Rattle.bits.specs.declared.number.Written.{Written}
-use Rattle.profile.specs.Record.{within, wellFormed}
-use Rattle.profile.specs.Staircase.{staircases}
-use Rattle.profile.specs.Plan.{blockBits, blocks}
-use Rattle.profile.specs.Promises.{planNumber, Planned}
+use Rattle.profile.specs.Record.{within}
+use Rattle.profile.specs.Promises.{planNumber, planned}
 use Rattle.profile.specs.declared.Plan.{Plan}
-use Rattle.coding.specs.Blocks.{blockHasParity}
-use Rattle.coding.specs.Allocation.{misallocated}
-use Rattle.coding.specs.Joining.{blockSent, joined, padded}
-use Rattle.coding.specs.Promises.{tooFewPlaces}
+use Rattle.coding.specs.Blocks.{someWithoutParity}
+use Rattle.coding.specs.Joining.{radioBits}
+use Rattle.coding.specs.Promises.{requestConditions}
 
--- R takes a block of so many octets, bits are as many as its transport bits, and p is its plan
-pub record Ready (R bits : List ℕ) (p : Plan) : Type 0 where
+-- R takes blocks of some length, and p is their plan
+pub record SomePlan (R : List ℕ) (p : Plan) : Type 0 where
   pub octets : ℕ
   pub taken : planNumber R octets ≡ 0
-  pub size : length bits ≡ blockBits octets
-  pub single : AreBits bits
-  pub plan : Planned R octets p
+  pub plan : p ≡ planned R octets
 
--- the systematic places with the own bits from `start` on
-unfoldable pub cutPlaces : List ℕ → ℕ → ℕ → ℕ → List ℕ
-cutPlaces bits start own places = take own (drop start bits) ++ replicate (places - own) 2
+-- and bits are single bits, as many as the transport bits of such a block
+pub record Ready (R bits : List ℕ) (p : Plan) : Type 0 where
+  pub some : SomePlan R p
+  pub size : length bits ≡ p .bits
+  pub single : AreBits bits
 
 -- b is a with the mark 2 from `from` to `to`
 pub record Marked (from to : ℕ) (a b : List ℕ) : Type 0 where
@@ -38,17 +33,8 @@ pub record Marked (from to : ℕ) (a b : List ℕ) : Type 0 where
   pub marked : (p : ℕ) → from ≤ p → p < to → getD b p 0 ≡ 2
 
 -- all of sendNumber but 15: what is refused before any block is coded. `need` octets are to be written: G, or A/8 where bits are received
-unfoldable pub takenNumber : List ℕ → ℕ → ℕ → ℕ → ℕ → ℕ → ℕ → ℕ
-takenNumber R octets nl qm g need room =
-    answered
-    ((5, not (wellFormed R))
-    ∷ (6, not (staircases R))
-    ∷ (7, not (within 1 2048 octets))
-    ∷ (8, misallocated nl qm g)
-    ∷ (9, ltb 64 (blocks R (blockBits octets)))
-    ∷ (10, tooFewPlaces R octets nl qm g)
-    ∷ (11, ltb room need)
-    ∷ [])
+unfoldable pub requestNumber : List ℕ → ℕ → ℕ → ℕ → ℕ → ℕ → ℕ → ℕ
+requestNumber R octets nl qm g need room = answered (requestConditions R (not (within 1 2048 octets)) octets nl qm g need room)
 
 -- the allocation is one of step 5, for c blocks
 pub record Allocated (nl qm g c : ℕ) : Type 0 where
@@ -58,15 +44,7 @@ pub record Allocated (nl qm g c : ℕ) : Type 0 where
   pub most : g ≤ 65536
   pub blocks : 0 < c
 
--- what transport bits are sent as
-unfoldable pub bitsSent : List ℕ → List ℕ → ℕ → ℕ → ℕ → List ℕ
-bitsSent R bits nl qm g = padded g (joined (blocks R (length bits)) (blockSent R bits nl qm g))
-
--- every block has parity bits
-unfoldable pub allHaveParity : List ℕ → List ℕ → Bool
-allHaveParity R bits = allTo (blocks R (length bits)) (blockHasParity R bits)
-
 -- transport bits were sent, or refused with 15
-pub record BitsSent (R bits : List ℕ) (nl qm g : ℕ) (out : List ℕ) (r : Written) (out' : List ℕ) : Type 0 where
-  pub done : allHaveParity R bits ≡ true → (r .number ≡ 0) × (r .count ≡ g) × (out' ≡ bitsSent R bits nl qm g ++ drop g out)
-  pub refused : allHaveParity R bits ≡ false → (r .number ≡ 15) × (r .count ≡ 0) × (out' ≡ out)
+pub record BitsSent (R : List ℕ) (b : ℕ) (bits : List ℕ) (nl qm g : ℕ) (out : List ℕ) (r : Written) (out' : List ℕ) : Type 0 where
+  pub done : someWithoutParity R b bits ≡ false → (r .number ≡ 0) × (r .count ≡ g) × (out' ≡ radioBits R b bits nl qm g ++ drop g out)
+  pub refused : someWithoutParity R b bits ≡ true → (r .number ≡ 15) × (r .count ≡ 0) × (out' ≡ out)

@@ -1,4 +1,4 @@
--- `parity::check_word` meets its contract. Assumes nothing.
+-- `parity::check_word` meets its contract.
 use mathlib.Core.Path.{sym, _∙_}
 use native.Mathlib.Omega.{arith}
 use denote.Ref.{now}
@@ -20,13 +20,13 @@ kb-requires c κs = word-taken _ _ _ (sym (c .before .word-number .ensures) ∙ 
 m-requires : tie.Need-m-requires
 m-requires c κs = word-taken _ _ _ (sym (c .before .before .word-number .ensures) ∙ c .before .if1 .left) .0
 
-size-of-requires : tie.Need-size-of-requires
-size-of-requires c κs = word-taken _ _ _ (sym (c .before .before .before .word-number .ensures) ∙ c .before .before .if1 .left) .0
+index-of-requires : tie.Need-index-of-requires
+index-of-requires c κs = word-taken _ _ _ (sym (c .before .before .before .word-number .ensures) ∙ c .before .before .if1 .left) .0
 
 table-requires : tie.Need-table-requires
 table-requires c κs =
     let taken = word-taken _ _ _ (sym (c .before .before .before .before .word-number .ensures) ∙ c .before .before .before .if1 .left) in
-    (taken .0, omega (arith, c .size-of .ensures, ready _ _ (taken .0) (taken .1) .below))
+    (taken .0, omega (arith, c .index-of .ensures, ready _ _ (taken .0) (taken .1) .below))
 
 checks-requires : tie.Need-checks-requires
 checks-requires c κs =
@@ -34,13 +34,13 @@ checks-requires c κs =
     let a = c .before .before .before .before .before .before .before .before .args in
     let kb-is = c .before .before .before .kb .ensures .0 in
     let m-is = c .before .before .m .ensures .0 in
-    let table-is = table-read (now (a .profile)) (a .z) _ _ (c .table .ensures) (c .before .size-of .ensures) in
+    let table-is = table-read (now (a .profile)) (a .z) _ _ (c .table .ensures) (c .before .index-of .ensures) in
     (shape-read _ _ (taken .0) (taken .1) _ _ kb-is m-is _ table-is, rw (kb-is, m-is) (taken .2))
 
 returns-2 : tie.Need-returns-2
 returns-2 c =
     let a = c .before .before .before .before .before .before .before .before .before .args in
-    let table-is = table-read (now (a .profile)) (a .z) _ _ (c .before .table .ensures) (c .before .before .size-of .ensures) in
+    let table-is = table-read (now (a .profile)) (a .z) _ _ (c .before .table .ensures) (c .before .before .index-of .ensures) in
     let read = check-read _ _ _ _ _ table-is (c .before .before .before .before .kb .ensures .0) (c .before .before .before .m .ensures .0) (now (a .word)) (c .checks .ensures) in
     checked-done _ _ _ _ (c .before .before .before .before .before .before .word-number .ensures) (c .before .before .before .before .before .if1 .left) _ read
 
@@ -52,7 +52,7 @@ check-word-spec =
     returns
     kb-requires
     m-requires
-    size-of-requires
+    index-of-requires
     table-requires
     checks-requires
     returns-2)

@@ -1,4 +1,4 @@
--- `parity::code_block` meets its contract. Assumes nothing.
+-- `parity::code_block` meets its contract.
 use mathlib.Core.Path.{sym, _∙_}
 use native.Mathlib.Omega.{arith}
 use lib.ListN.{replicate}
@@ -43,8 +43,8 @@ code-in-requires : tie.Need-code-in-requires
 code-in-requires c κs =
     let e = sym (c .before .before .before .before .before .block-number .ensures) ∙ c .before .before .before .before .if1 .left in
     let taken = block-taken _ _ _ _ e in
-    let wide = places-most _ _ (taken .judged) (taken .size) _ _ (c .before .before .before .kb .ensures .0) (c .before .before .m .ensures .0) in
-    (e, rw (sym (c .before .before .before .kb .ensures .0), sym (c .before .before .m .ensures .0)) (length-take-le _ (replicate 2592 0) wide))
+    let columns = places-most _ _ (taken .judged) (taken .size) _ _ (c .before .before .before .kb .ensures .0) (c .before .before .m .ensures .0) in
+    (e, rw (sym (c .before .before .before .kb .ensures .0), sym (c .before .before .m .ensures .0)) (length-take-le _ (replicate 2592 0) columns))
 
 same-length : tie.Need-same-length
 same-length c = search needs

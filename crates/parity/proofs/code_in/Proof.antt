@@ -1,4 +1,4 @@
--- `parity::code_in` meets its contract. Assumes nothing.
+-- `parity::code_in` meets its contract.
 use native.Mathlib.Omega.{arith}
 use denote.Ref.{now}
 use borrow.Author.Tests.{not-true, not-false}
@@ -14,13 +14,13 @@ kb-requires c κs = block-taken _ _ _ _ (c .before .before .before .before .pre 
 m-requires : tie.Need-m-requires
 m-requires c κs = block-taken _ _ _ _ (c .before .before .before .before .before .pre .0) .judged
 
-size-of-requires : tie.Need-size-of-requires
-size-of-requires c κs = block-taken _ _ _ _ (c .before .before .before .before .before .before .pre .0) .judged
+index-of-requires : tie.Need-index-of-requires
+index-of-requires c κs = block-taken _ _ _ _ (c .before .before .before .before .before .before .pre .0) .judged
 
 table-requires : tie.Need-table-requires
 table-requires c κs =
     let taken = block-taken _ _ _ _ (c .before .before .before .before .before .before .before .pre .0) in
-    (taken .judged, omega (arith, c .size-of .ensures, ready _ _ (taken .judged) (taken .size) .below))
+    (taken .judged, omega (arith, c .index-of .ensures, ready _ _ (taken .judged) (taken .size) .below))
 
 attempt-requires : tie.Need-attempt-requires
 attempt-requires c κs =
@@ -28,7 +28,7 @@ attempt-requires c κs =
     let taken = block-taken _ _ _ _ (st .pre .0) in
     let kb-is = c .before .before .before .before .kb .ensures .0 in
     let m-is = c .before .before .before .m .ensures .0 in
-    let table-is = table-read (now (st .args .profile)) (st .args .z) _ _ (c .before .table .ensures) (c .before .before .size-of .ensures) in
+    let table-is = table-read (now (st .args .profile)) (st .args .z) _ _ (c .before .table .ensures) (c .before .before .index-of .ensures) in
     (shape-read _ _ (taken .judged) (taken .size) _ _ kb-is m-is _ table-is, rw kb-is (taken .long), rw (kb-is, m-is) (st .pre .1))
 
 same-length : tie.Need-same-length
@@ -37,7 +37,7 @@ same-length c = search needs
 returns : tie.Need-returns
 returns c =
     let st = c .before .before .before .before .before .before .before .before .before .before .before .before .before in
-    let table-is = table-read (now (st .args .profile)) (st .args .z) _ _ (c .before .before .before .before .before .table .ensures) (c .before .before .before .before .before .before .size-of .ensures) in
+    let table-is = table-read (now (st .args .profile)) (st .args .z) _ _ (c .before .before .before .before .before .table .ensures) (c .before .before .before .before .before .before .index-of .ensures) in
     let tried = c .before .before .before .attempt .ensures in
     attempt-none _ _ _ _ _ table-is (c .before .before .before .before .before .before .before .before .kb .ensures .0) (c .before .before .before .before .before .before .before .m .ensures .0) _ _ (st .pre .0) _ (tried .1) _ (tried .0) (not-true _ (c .if1 .taken))
 
@@ -56,7 +56,7 @@ same-length-3 c = search needs
 returns-2 : tie.Need-returns-2
 returns-2 c =
     let st = c .before .before .before .before .before .before .before .before .before .before .before .before .before .before .before .before .before .before in
-    let table-is = table-read (now (st .args .profile)) (st .args .z) _ _ (c .before .before .before .before .before .before .before .before .before .before .table .ensures) (c .before .before .before .before .before .before .before .before .before .before .before .size-of .ensures) in
+    let table-is = table-read (now (st .args .profile)) (st .args .z) _ _ (c .before .before .before .before .before .before .before .before .before .before .table .ensures) (c .before .before .before .before .before .before .before .before .before .before .before .index-of .ensures) in
     let tried = c .before .before .before .before .before .before .before .before .attempt .ensures in
     attempt-done _ _ _ _ _ table-is (c .before .before .before .before .before .before .before .before .before .before .before .before .before .kb .ensures .0) (c .before .before .before .before .before .before .before .before .before .before .before .before .m .ensures .0) _ _ (st .pre .0) _ (tried .1) _ (tried .0)
     (not-false _ (c .before .before .before .before .before .if1 .left)) _ (c .before .before .copy .ensures)
@@ -67,7 +67,7 @@ code-in-spec =
     (tie.spec
     kb-requires
     m-requires
-    size-of-requires
+    index-of-requires
     table-requires
     attempt-requires
     same-length

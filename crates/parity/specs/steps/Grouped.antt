@@ -5,30 +5,33 @@ use mathlib.Core.List.{List}
 use Prim.Native.Nat.{ℕ, suc, _+_, _*_, _%_, _≤_, _<_}
 use lib.Dec.{eqb}
 use lib.ListN.{length, getD}
-use Rattle.bits.specs.Ranges.{sumTo}
-use Rattle.profile.specs.Record.{entry}
-use Rattle.parity.specs.Matrix.{bitAt}
+use Rattle.bits.specs.Ranges.{sumBelow}
+use Rattle.profile.specs.Record.{entry, empty}
 
--- what the entry s adds to row t of its square, where the places of its column start at base
-unfoldable pub share : ℕ → List ℕ → ℕ → ℕ → ℕ → ℕ
-share z w s base t = cond (eqb s 255) 0 (bitAt w (base + (t + s) % z))
+-- the bit at a place as it is read without a test, by its lowest digit: that of the mark 2 is 0
+unfoldable pub lowBit : List ℕ → ℕ → ℕ
+lowBit w place = getD w place 0 % 2
+
+-- what the entry s adds to row u of its square, where the places of its column start at base
+unfoldable pub entryBit : ℕ → List ℕ → ℕ → ℕ → ℕ → ℕ
+entryBit z w s base u = cond (eqb s empty) 0 (lowBit w (base + (u + s) % z))
 
 -- the entry in row i and column j
 unfoldable pub term : List ℕ → ℕ → ℕ → List ℕ → ℕ → ℕ → ℕ → ℕ
-term T wide z w i t j = share z w (entry T wide i j) (j * z) t
+term T columns z w i u j = entryBit z w (entry T columns i j) (j * z) u
 
--- the sum in row t of the squares of row i, over the first n columns
+-- the sum in row u of the squares of row i, over the first n columns
 unfoldable pub rowPart : List ℕ → ℕ → ℕ → List ℕ → ℕ → ℕ → ℕ → ℕ
-rowPart T wide z w n i t = sumTo n (term T wide z w i t)
+rowPart T columns z w n i u = sumBelow n (term T columns z w i u)
 
 -- the rows 0 .. r − 1 together
 unfoldable pub stack : List ℕ → ℕ → ℕ → List ℕ → ℕ → ℕ → ℕ → ℕ
-stack T wide z w n r t = sumTo r (λ i. rowPart T wide z w n i t)
+stack T columns z w n r u = sumBelow r (λ i. rowPart T columns z w n i u)
 
 -- column kb is the sum of all rows over the systematic columns, and column kb + n that of the rows before n over columns 0 .. kb
 pub record Solved (T : List ℕ) (kb m z : ℕ) (w : List ℕ) : Type 0 where
-  pub first : (t : ℕ) → t < z → bitAt w (kb * z + t) ≡ stack T (kb + m) z w kb m t % 2
-  pub next : (n t : ℕ) → 0 < n → n < m → t < z → bitAt w ((kb + n) * z + t) ≡ stack T (kb + m) z w (suc kb) n t % 2
+  pub first : (u : ℕ) → u < z → lowBit w (kb * z + u) ≡ stack T (kb + m) z w kb m u % 2
+  pub next : (n u : ℕ) → 0 < n → n < m → u < z → lowBit w ((kb + n) * z + u) ≡ stack T (kb + m) z w (suc kb) n u % 2
 
 -- a word of kb + m groups of z places that has the places of sys in front, then bits, and solves the staircase
 pub record Solution (T : List ℕ) (kb m z : ℕ) (sys w : List ℕ) : Type 0 where
@@ -37,12 +40,12 @@ pub record Solution (T : List ℕ) (kb m z : ℕ) (sys w : List ℕ) : Type 0 wh
   pub bits : (p : ℕ) → kb * z ≤ p → getD w p 0 < 2
   pub solved : Solved T kb m z w
 
--- a table of m rows and `wide` columns that goes with z, within the sizes of document 01
-pub record Shape (T : List ℕ) (m wide z : ℕ) : Type 0 where
-  pub size : length T ≡ m * wide
-  pub shifts : (k : ℕ) → (getD T k 0 ≡ 255 → ⊥) → getD T k 0 < z
+-- a table of m rows and `columns` columns that goes with z, within the sizes of document 01
+pub record Shape (T : List ℕ) (m columns z : ℕ) : Type 0 where
+  pub size : length T ≡ m * columns
+  pub shifts : (k : ℕ) → (getD T k 0 ≡ empty → ⊥) → getD T k 0 < z
   pub z-some : 0 < z
   pub z-most : z ≤ 81
   pub m-some : 0 < m
   pub m-most : m ≤ 12
-  pub wide-most : wide ≤ 32
+  pub columns-most : columns ≤ 32

@@ -6,9 +6,9 @@ use Prim.Native.Nat.{ℕ, suc, _+_, _*_, _%_, _≤_, _<_}
 use lib.Dec.{eqb}
 use lib.ListN.{length, getD}
 use Rattle.bits.specs.Bits.{AreBits}
-use Rattle.bits.specs.Ranges.{sumTo}
-use Rattle.parity.specs.Matrix.{bitAt}
-use Rattle.parity.specs.steps.Grouped.{rowPart}
+use Rattle.bits.specs.Ranges.{sumBelow}
+use Rattle.profile.specs.Record.{empty}
+use Rattle.parity.specs.steps.Grouped.{lowBit, rowPart}
 
 -- b is a, but that the n places from `at` on hold f 0 .. f (n − 1)
 pub record Run (n : ℕ) (f : ℕ → ℕ) (a : List ℕ) (at : ℕ) (b : List ℕ) : Type 0 where
@@ -19,45 +19,45 @@ pub record Run (n : ℕ) (f : ℕ → ℕ) (a : List ℕ) (at : ℕ) (b : List �
 
 -- the bits of g from `from` on; a's places from `at` on with the bits of g added
 unfoldable pub copied : List ℕ → ℕ → ℕ → ℕ
-copied g from k = bitAt g (from + k)
+copied g from k = lowBit g (from + k)
 
 unfoldable pub added : List ℕ → ℕ → List ℕ → ℕ → ℕ → ℕ
 added a at g from k = (getD a (at + k) 0 + getD g (from + k) 0) % 2
 
 -- a's places from `at` on with what the entry s adds of a doubled group g: nothing where it is empty, else the bits from s on
 unfoldable pub entered : List ℕ → ℕ → ℕ → List ℕ → ℕ → ℕ
-entered a at s g k = (getD a (at + k) 0 + cond (eqb s 255) 0 (getD g (s + k) 0)) % 2
+entered a at s g k = (getD a (at + k) 0 + cond (eqb s empty) 0 (getD g (s + k) 0)) % 2
 
 -- g holds the group of z bits from `base` on twice, one after the other
 pub record Doubled (w : List ℕ) (base z : ℕ) (g : List ℕ) : Type 0 where
   pub bits : AreBits g
-  pub at : (k : ℕ) → k < z + z → getD g k 0 ≡ bitAt w (base + k % z)
+  pub at : (k : ℕ) → k < z + z → getD g k 0 ≡ lowBit w (base + k % z)
 
 -- s holds the sums of m rows, z places each: the rows before r over the first n + 1 columns of the word, the others over the first n
-pub record Sums (T : List ℕ) (m wide z : ℕ) (w : List ℕ) (n r : ℕ) (s : List ℕ) : Type 0 where
+pub record Sums (T : List ℕ) (m columns z : ℕ) (w : List ℕ) (n r : ℕ) (s : List ℕ) : Type 0 where
   pub size : length s ≡ m * z
   pub bits : AreBits s
-  pub done : (i t : ℕ) → i < r → t < z → getD s (i * z + t) 0 ≡ rowPart T wide z w (suc n) i t % 2
-  pub left : (i t : ℕ) → r ≤ i → i < m → t < z → getD s (i * z + t) 0 ≡ rowPart T wide z w n i t % 2
+  pub done : (i u : ℕ) → i < r → u < z → getD s (i * z + u) 0 ≡ rowPart T columns z w (suc n) i u % 2
+  pub left : (i u : ℕ) → r ≤ i → i < m → u < z → getD s (i * z + u) 0 ≡ rowPart T columns z w n i u % 2
 
--- place t of the rows 0 .. r − 1 of s together
+-- place u of the rows 0 .. r − 1 of s together
 unfoldable pub down : List ℕ → ℕ → ℕ → ℕ → ℕ
-down s z r t = sumTo r (λ i. getD s (i * z + t) 0)
+down s z r u = sumBelow r (λ i. getD s (i * z + u) 0)
 
 -- as bits: all m rows, whatever the column; the rows down to that of step j
 unfoldable pub allRows : List ℕ → ℕ → ℕ → ℕ → ℕ → ℕ
-allRows s z m j t = down s z m t % 2
+allRows s z m j u = down s z m u % 2
 
 unfoldable pub rowsAbove : List ℕ → ℕ → ℕ → ℕ → ℕ
-rowsAbove s z j t = down s z (suc j) t % 2
+rowsAbove s z j u = down s z (suc j) u % 2
 
 -- b is a, but that n groups of z places from `at` on hold f
 pub record Groups (z n : ℕ) (f : ℕ → ℕ → ℕ) (a : List ℕ) (at : ℕ) (b : List ℕ) : Type 0 where
   pub len : length b ≡ length a
-  pub inside : (j t : ℕ) → j < n → t < z → getD b (at + j * z + t) 0 ≡ f j t
+  pub inside : (j u : ℕ) → j < n → u < z → getD b (at + j * z + u) 0 ≡ f j u
   pub below : (p : ℕ) → p < at → getD b p 0 ≡ getD a p 0
 
 -- g holds, in its first z places, the sums of the rows 0 .. r − 1 of s
 pub record Together (s : List ℕ) (z r : ℕ) (g : List ℕ) : Type 0 where
   pub bits : AreBits g
-  pub at : (t : ℕ) → t < z → getD g t 0 ≡ down s z r t % 2
+  pub at : (u : ℕ) → u < z → getD g u 0 ≡ down s z r u % 2

@@ -1,16 +1,14 @@
--- `profile::judge` meets its contract. Assumes nothing.
+-- `profile::judge` meets its contract.
 use mathlib.Core.Path.{_≡_}
 use mathlib.Core.Bool.{true, false}
 use denote.Ref.{now}
 use borrow.Author.Needs.{needs}
 use borrow.Author.Tests.{not-true, not-false}
 use Rattle.bits.specs.Numbers.{answered}
-use Rattle.bits.specs.Ranges.{allTo}
-use Rattle.profile.specs.Record.{t, tableRight}
-use Rattle.profile.specs.Staircase.{staircases}
 use Rattle.profile.specs.Promises.{judged}
 use Rattle.profile.specs.steps.Shape.{shapeRight}
-use Rattle.profile.proofs.Answers.{formed-is}
+use Rattle.profile.proofs.Shape.{formed-is}
+use Rattle.profile.proofs.Answers.{judged-by}
 use Rattle.profile.proofs.judge.Statement.{statement}
 use Rattle.profile.proofs.judge.Tie as tie
 
@@ -24,40 +22,30 @@ returns c =
     let shape : shapeRight R ≡ false = cc (not-true (c .before .shape-right .result) (c .if1 .taken)) in
     rw (formed-is R, shape)
 
+-- after the first test
+shaped : (c : tie.Else1) → shapeRight (now (c .before .before .before .args .profile)) ≡ true
+shaped c = cc (not-false (c .before .shape-right .result) (c .if1 .left))
+
 tables-right-requires : tie.Need-tables-right-requires
-tables-right-requires c κs = cc (not-false (c .before .shape-right .result) (c .if1 .left))
+tables-right-requires c κs = shaped c
 
 staircases-requires : tie.Need-staircases-requires
-staircases-requires c κs = cc (not-false (c .before .before .shape-right .result) (c .before .if1 .left))
+staircases-requires c κs = shaped (c .before)
 
 returns-2 : tie.Need-returns-2
-unfolding judged answered
 returns-2 c =
     let R = now (c .before .before .before .before .before .before .before .args .profile) in
-    let u = c .before .before .before .before in
-    let shape : shapeRight R ≡ true = cc (not-false (u .before .shape-right .result) (u .if1 .left)) in
-    let entries : allTo (t R) (tableRight R) ≡ true = cc in
-    let stairs : staircases R ≡ true = cc in
-    rw (formed-is R, shape, entries, stairs)
+    judged-by R (shaped (c .before .before .before .before)) _ (λ e s. cc) (λ e s. cc) (λ e. cc)
 
 returns-3 : tie.Need-returns-3
-unfolding judged answered
 returns-3 c =
     let R = now (c .before .before .before .before .before .before .before .args .profile) in
-    let u = c .before .before .before .before in
-    let shape : shapeRight R ≡ true = cc (not-false (u .before .shape-right .result) (u .if1 .left)) in
-    let entries : allTo (t R) (tableRight R) ≡ true = cc in
-    let stairs : staircases R ≡ false = cc in
-    rw (formed-is R, shape, entries, stairs)
+    judged-by R (shaped (c .before .before .before .before)) _ (λ e s. cc) (λ e s. cc) (λ e. cc)
 
 returns-4 : tie.Need-returns-4
-unfolding judged answered
 returns-4 c =
     let R = now (c .before .before .before .before .before .before .args .profile) in
-    let u = c .before .before .before in
-    let shape : shapeRight R ≡ true = cc (not-false (u .before .shape-right .result) (u .if1 .left)) in
-    let entries : allTo (t R) (tableRight R) ≡ false = cc in
-    rw (formed-is R, shape, entries)
+    judged-by R (shaped (c .before .before .before)) _ (λ e s. cc) (λ e s. cc) (λ e. cc)
 
 pub judge-spec : {M : Type 1} → statement M
 judge-spec =

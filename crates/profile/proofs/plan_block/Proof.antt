@@ -1,4 +1,4 @@
--- `profile::plan_block` meets its contract. Assumes nothing.
+-- `profile::plan_block` meets its contract.
 use mathlib.Core.Path.{_≡_, sym, _∙_}
 use denote.Ref.{now}
 use borrow.Author.Needs.{needs}

@@ -2,16 +2,24 @@
 use mathlib.Core.Path.{_≡_}
 use mathlib.Core.Bool.{Bool, _&&_}
 use mathlib.Core.List.{List}
-use Prim.Native.Nat.{ℕ, suc, _+_, _*_, _≤_}
-use lib.Dec.{eqb}
+use Prim.Native.Nat.{ℕ, _+_, _*_, _≤_}
+use lib.Dec.{eqb, leb}
 use lib.ListN.{length}
-use Rattle.bits.specs.Ranges.{allTo}
-use Rattle.profile.specs.Record.{t, entry, headerRight, lengthRight, sizeRight}
-use Rattle.profile.specs.Staircase.{nextDue}
+use Rattle.bits.specs.Ranges.{allBelow}
+use Rattle.profile.specs.Record.{t, z, offset, within, headerRight, rises, offsetDue, endsRight}
 
--- well formed but for the entries
+-- ---- well formed in the code's order, from the front, so that what is read is there
+
+unfoldable pub frontRight : List ℕ → Bool
+frontRight R = leb 6 (length R) && headerRight R
+
+-- a size and its offset
+unfoldable pub sizeRight : List ℕ → ℕ → Bool
+sizeRight R i = within 1 81 (z R i) && rises R i && eqb (offset R i) (offsetDue R i)
+
+-- all but the entries
 unfoldable pub shapeRight : List ℕ → Bool
-shapeRight R = headerRight R && lengthRight R && allTo (t R) (sizeRight R)
+shapeRight R = frontRight R && endsRight R && allBelow (t R) (sizeRight R)
 
 -- a table of the size that its columns and rows give, few enough of both
 pub record Sized (T : List ℕ) (kb m : ℕ) : Type 0 where
@@ -19,7 +27,3 @@ pub record Sized (T : List ℕ) (kb m : ℕ) : Type 0 where
   pub kb-high : kb ≤ 20
   pub m-low : 3 ≤ m
   pub m-high : m ≤ 12
-
--- column kb + j + 1 holds what it is due in a row
-unfoldable pub nextRight : List ℕ → ℕ → ℕ → ℕ → ℕ → Bool
-nextRight T kb m row j = eqb (entry T (kb + m) row (kb + suc j)) (nextDue (suc j) row)

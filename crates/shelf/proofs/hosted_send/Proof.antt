@@ -1,7 +1,7 @@
--- `shelf::hosted_send` meets its contract. Assumes nothing.
+-- `shelf::hosted_send` meets its contract.
 use mathlib.Core.Path.{sym, _∙_}
 use borrow.Author.Needs.{needs}
-use Rattle.shelf.proofs.Hosted.{send-refused, send-done}
+use Rattle.shelf.proofs.Hosted.{hosted-refused, hosted-found}
 use Rattle.shelf.proofs.hosted_send.Statement.{statement}
 use Rattle.shelf.proofs.hosted_send.Tie as tie
 
@@ -11,7 +11,7 @@ look-requires c κs = search needs
 returns : tie.Need-returns
 returns c =
     let l = c .before .look in
-    send-refused _ _ _ _ (l .result .number) (l .ensures .number) (c .if1 .taken) _ _ _ _ _
+    hosted-refused _ _ _ _ _ _ (l .result .number) (l .ensures .number) (c .if1 .taken)
 
 stretch-requires : tie.Need-stretch-requires
 stretch-requires c κs = c .before .look .ensures .inside
@@ -27,7 +27,7 @@ returns-2 c =
     let m = c .before .before in
     let s = m .before .before in
     let l = s .before .before .look .ensures in
-    send-done _ _ _ _ (sym (l .number) ∙ s .before .if1 .left) _ (s .stretch .ensures .0 ∙ l .octets) _ _ _ _ _ _ _ (m .send .ensures)
+    hosted-found _ _ _ _ _ _ _ _ (sym (l .number) ∙ s .before .if1 .left) _ (s .stretch .ensures .0 ∙ l .octets) (m .send .ensures)
 
 pub hosted-send-spec : {M : Type 1} → statement M
 hosted-send-spec =

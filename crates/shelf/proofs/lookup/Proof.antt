@@ -1,4 +1,4 @@
--- `shelf::lookup` meets its contract. Assumes nothing.
+-- `shelf::lookup` meets its contract.
 use mathlib.Core.Path.{_∙_}
 use denote.Ref.{ptr}
 use borrow.Author.Needs.{needs}

@@ -6,7 +6,7 @@ use Prim.Native.Nat.{ℕ, _+_, _≤_}
 use lib.ListN.{length, take, drop}
 use Rattle.shelf.specs.Shelf.{offset, size}
 use Rattle.shelf.specs.Lookup.{lookupNumber, lookupRecord, into, lookupPlace}
-use Rattle.shelf.specs.declared.find.Found.{Found}
+use Rattle.shelf.specs.declared.inner.Found.{Found}
 
 unfoldable pub refusal : ℕ → Found
 refusal n = record { number = n; own = false; at = 0; size = 0 }

@@ -12,7 +12,7 @@ pub const CRC: Kind = Kind {
     large: &[],
 };
 
-const WIDTHS: [u64; 3] = [8, 16, 24];
+pub const WIDTHS: [u64; 3] = [8, 16, 24];
 
 fn done(random: &mut Random) -> Words {
     let width = random.pick(&WIDTHS);
@@ -81,7 +81,7 @@ pub fn spoil(bits: &mut Vec<u8>, highest: u8, random: &mut Random) {
 }
 
 /// A width that is none of the three: close to them, or equal to one of them in fewer places.
-fn other_width(random: &mut Random) -> u64 {
+pub fn other_width(random: &mut Random) -> u64 {
     let near = random.pick(&[0, 1, 7, 9, 15, 17, 23, 25, 32, 48]);
     let wrapped = (1 << random.pick(&[8, 16, 31, 32, 63])) + random.pick(&WIDTHS);
     let any = random.next().max(25);

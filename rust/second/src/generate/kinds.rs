@@ -1,7 +1,7 @@
 //! The kinds of requests that are generated, each with the words that it takes.
 
 use super::write::Words;
-use super::{crc, hosted, parity, profile, rate, recv, send};
+use super::{crc, crcoct, hosted, parity, profile, rate, recv, send};
 use crate::random::Random;
 
 /// One kind of request.
@@ -30,6 +30,7 @@ pub enum Word {
 
 pub const KINDS: &[Kind] = &[
     crc::CRC,
+    crcoct::CRCOCT,
     profile::PROFILE,
     profile::PLAN,
     parity::ENCODE,

@@ -6,7 +6,7 @@ use crate::numbers::{
     Number, BLOCK_LENGTH, FEW_PLACES, MANY_BLOCKS, NO_BIT, NO_RECORD, OUTPUT, PARAMETER,
     PRIVATE_SHELF, PUBLIC_SHELF, RECORD, SHORT_SHARE, STAIRCASE, TENANT_0, UNSENT,
 };
-use crate::samples::{plain, TOY};
+use crate::samples::{no_staircase, plain, TOY};
 use crate::send::send;
 use crate::shelf::Asked;
 use crate::transfer;
@@ -28,12 +28,6 @@ fn shelves(tenant: u16, profile: u16) -> Asked {
         tenant,
         profile,
     }
-}
-
-fn no_staircase() -> [u8; 22] {
-    let mut record = TOY;
-    record[12] = 1;
-    record
 }
 
 fn sent(shelves: &Asked, block: &[u8]) -> Result<Vec<u8>, Number> {

@@ -6,7 +6,7 @@ use crate::matrix::Row;
 use crate::numbers::{Number, NO_BIT, NO_PARITY, OUTPUT, PARAMETER, RECORD, STAIRCASE};
 use crate::random::Random;
 use crate::record::{profile, Entry, Profile, Table};
-use crate::samples::{five_sixths, half, plain, TOY};
+use crate::samples::{binary, bits, five_sixths, half, no_staircase, not_well_formed, plain, TOY};
 
 /// Codes with room enough.
 fn coded(record: &[u8], z: u64, places: &[u8]) -> Result<Vec<u8>, Number> {
@@ -14,17 +14,6 @@ fn coded(record: &[u8], z: u64, places: &[u8]) -> Result<Vec<u8>, Number> {
     let count = encode(record, z, places, &mut output)?;
     output.truncate(count);
     Ok(output)
-}
-
-fn bits(count: usize, random: &mut Random) -> Vec<u8> {
-    (0..count).map(|_| random.pick(&[0, 1])).collect()
-}
-
-/// The low binary digits of a number, as a word.
-fn binary(number: usize, places: usize) -> Vec<u8> {
-    (0..places)
-        .map(|place| u8::from(number >> place & 1 == 1))
-        .collect()
 }
 
 #[test]
@@ -253,21 +242,17 @@ fn octets_over_2_are_refused_in_a_block_and_over_1_in_a_word() {
 
 #[test]
 fn the_lowest_number_is_answered() {
-    let mut not_well_formed = TOY;
-    not_well_formed[10] = 2;
-    let mut no_staircase = TOY;
-    no_staircase[12] = 1;
     let encode = |record: &[u8], z, places: &[u8], room: usize| {
         encode(record, z, places, &mut vec![0; room])
     };
-    assert_eq!(encode(&not_well_formed, 3, &[9], 0), Err(RECORD));
-    assert_eq!(encode(&no_staircase, 3, &[9], 0), Err(STAIRCASE));
+    assert_eq!(encode(&not_well_formed(), 3, &[9], 0), Err(RECORD));
+    assert_eq!(encode(&no_staircase(), 3, &[9], 0), Err(STAIRCASE));
     assert_eq!(encode(&TOY, 3, &[9], 0), Err(PARAMETER));
     assert_eq!(encode(&TOY, 2, &[9], 0), Err(PARAMETER));
     assert_eq!(encode(&TOY, 2, &[9, 9], 7), Err(OUTPUT));
     assert_eq!(encode(&TOY, 2, &[9, 9], 8), Err(NO_BIT));
-    assert_eq!(check(&not_well_formed, 3, &[9]), Err(RECORD));
-    assert_eq!(check(&no_staircase, 3, &[9]), Err(STAIRCASE));
+    assert_eq!(check(&not_well_formed(), 3, &[9]), Err(RECORD));
+    assert_eq!(check(&no_staircase(), 3, &[9]), Err(STAIRCASE));
     assert_eq!(check(&TOY, 3, &[9]), Err(PARAMETER));
     assert_eq!(check(&TOY, 2, &[9]), Err(PARAMETER));
     assert_eq!(check(&TOY, 2, &[9; 8]), Err(NO_BIT));

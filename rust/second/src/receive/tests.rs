@@ -7,7 +7,7 @@ use crate::numbers::{
 };
 use crate::octets::unpacked;
 use crate::random::Random;
-use crate::samples::{five_sixths, half, plain, TOY};
+use crate::samples::{five_sixths, half, no_staircase, not_well_formed, plain, TOY};
 use crate::send::send;
 use crate::transfer::Asked;
 
@@ -293,15 +293,11 @@ fn a_refusal_changes_nothing() {
 
 #[test]
 fn the_lowest_number_is_answered() {
-    let mut not_well_formed = TOY;
-    not_well_formed[10] = 2;
-    let mut no_staircase = TOY;
-    no_staircase[12] = 1;
     let receive = |record: &[u8], a, layers, bits: &[u8], length: usize| {
         receive(record, a, layers, 2, bits, &mut vec![0; length])
     };
-    assert_eq!(receive(&not_well_formed, 9, 0, &[9], 0), Err(RECORD));
-    assert_eq!(receive(&no_staircase, 9, 0, &[9], 0), Err(STAIRCASE));
+    assert_eq!(receive(&not_well_formed(), 9, 0, &[9], 0), Err(RECORD));
+    assert_eq!(receive(&no_staircase(), 9, 0, &[9], 0), Err(STAIRCASE));
     assert_eq!(receive(&TOY, 9, 0, &[9], 0), Err(BLOCK_LENGTH));
     assert_eq!(receive(&TOY, 112, 0, &[9], 0), Err(PARAMETER));
     assert_eq!(receive(&TOY, 112, 1, &[9], 0), Err(PARAMETER));

@@ -8,7 +8,7 @@ use crate::numbers::{
 use crate::octets::{packed, unpacked};
 use crate::parity::{check, encode};
 use crate::random::Random;
-use crate::samples::{five_sixths, half, plain, TOY};
+use crate::samples::{five_sixths, half, no_staircase, not_well_formed, plain, TOY};
 use crate::transfer::Asked;
 
 fn asked(layers: u64, order: u64, g: u64) -> Asked {
@@ -189,14 +189,10 @@ fn the_output_has_room_for_g_bits() {
 
 #[test]
 fn the_lowest_number_is_answered() {
-    let mut not_well_formed = TOY;
-    not_well_formed[10] = 2;
-    let mut no_staircase = TOY;
-    no_staircase[12] = 1;
     // Too many octets, and no layer; too many blocks; too few places; no output.
     let send = |record: &[u8], count: usize, asked| send(record, &vec![0; count], asked, &mut []);
-    assert_eq!(send(&not_well_formed, 0, asked(0, 2, 2)), Err(RECORD));
-    assert_eq!(send(&no_staircase, 0, asked(0, 2, 2)), Err(STAIRCASE));
+    assert_eq!(send(&not_well_formed(), 0, asked(0, 2, 2)), Err(RECORD));
+    assert_eq!(send(&no_staircase(), 0, asked(0, 2, 2)), Err(STAIRCASE));
     assert_eq!(send(&TOY, 0, asked(0, 2, 2)), Err(BLOCK_LENGTH));
     assert_eq!(send(&TOY, 2049, asked(0, 2, 2)), Err(BLOCK_LENGTH));
     assert_eq!(send(&TOY, 14, asked(0, 2, 2)), Err(PARAMETER));

@@ -1,4 +1,4 @@
--- `checksum::inner::attach` meets its contract. Assumes nothing.
+-- `checksum::inner::attach` meets its contract.
 use denote.Ref.{now}
 use borrow.Author.Needs.{needs}
 use Rattle.checksum.proofs.Attachment.{sets-attached}

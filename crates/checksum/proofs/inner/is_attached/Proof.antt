@@ -1,4 +1,4 @@
--- `checksum::inner::is_attached` meets its contract. Assumes nothing.
+-- `checksum::inner::is_attached` meets its contract.
 use mathlib.Core.Path.{_≡_, sym}
 use Prim.Native.Nat.{_-_}
 use native.Mathlib.Omega.{arith}

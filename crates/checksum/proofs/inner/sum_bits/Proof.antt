@@ -1,5 +1,4 @@
 -- `checksum::inner::sum_bits` meets its contract. The loop's invariant: the bits left, fed to the register, give what all of them give.
--- Assumes nothing.
 use mathlib.Core.Path.{_≡_, refl}
 use Prim.Native.Nat.{ℕ, _-_, _^_, _<_}
 use native.Mathlib.Omega.{arith}

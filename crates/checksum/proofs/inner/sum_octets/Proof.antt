@@ -1,5 +1,4 @@
 -- `checksum::inner::sum_octets` meets its contract. The loop's invariant: the octets left, fed to the register, give what all of them give.
--- Assumes nothing.
 use mathlib.Core.Path.{_≡_, refl}
 use Prim.Native.Nat.{ℕ, _-_, _^_, _<_}
 use lib.ListN.{length, drop}

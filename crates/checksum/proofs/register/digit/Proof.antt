@@ -1,4 +1,4 @@
--- `checksum::register::digit` meets its contract. Assumes nothing.
+-- `checksum::register::digit` meets its contract.
 use Prim.Native.Nat.{_/_, _^_}
 use lib.Bits.{and-mask, mask-lt}
 use borrow.Author.Needs.{needs}

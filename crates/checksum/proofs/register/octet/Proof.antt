@@ -1,5 +1,5 @@
 -- `checksum::register::octet` meets its contract. The loop's invariant: the 8 - k bits left, fed to the register, give what all eight
--- give. Assumes nothing.
+-- give.
 use mathlib.Core.Path.{_≡_, refl}
 use Prim.Native.Nat.{ℕ, _+_, _-_, _^_, _<_, _≤_}
 use native.Mathlib.Omega.{arith}

@@ -1,4 +1,4 @@
--- `checksum::register::step` meets its contract: the two ways of `Machine`. Assumes nothing.
+-- `checksum::register::step` meets its contract: the two ways of `Machine`.
 use borrow.Author.Needs.{needs}
 use Rattle.checksum.proofs.Machine.{mask-some, without-top, less-generator}
 use Rattle.checksum.proofs.register.step.Statement.{statement}

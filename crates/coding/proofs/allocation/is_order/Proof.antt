@@ -1,4 +1,4 @@
--- `coding::allocation::is_order` meets its contract. Assumes nothing.
+-- `coding::allocation::is_order` meets its contract.
 use borrow.Author.Tests.{eq-eqb, ne-eqb}
 use Rattle.coding.proofs.allocation.is_order.Statement.{statement}
 use Rattle.coding.proofs.allocation.is_order.Tie as tie

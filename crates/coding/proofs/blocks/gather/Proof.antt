@@ -1,10 +1,10 @@
--- `coding::blocks::gather` meets its contract. Assumes nothing.
+-- `coding::blocks::gather` meets its contract.
 use Prim.Native.Nat.{_-_}
 use native.Mathlib.Omega.{arith}
 use lib.ListN.{length}
 use denote.Ref.{now}
 use borrow.Author.Needs.{needs}
-use Rattle.coding.proofs.Heard.{gathered-word}
+use Rattle.coding.proofs.ReceivedBlock.{gathered-word}
 use Rattle.coding.proofs.blocks.gather.Statement.{statement}
 use Rattle.coding.proofs.blocks.gather.Tie as tie
 

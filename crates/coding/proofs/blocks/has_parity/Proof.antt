@@ -1,4 +1,4 @@
--- `coding::blocks::has_parity` meets its contract. Assumes nothing.
+-- `coding::blocks::has_parity` meets its contract.
 use mathlib.Core.Path.{_≡_, _∙_}
 use Prim.Native.Nat.{_+_, _*_}
 use native.Mathlib.Omega.{arith}
@@ -6,7 +6,7 @@ use lib.ListN.{length}
 use denote.Ref.{now}
 use borrow.Author.Needs.{needs}
 use Rattle.profile.specs.Record.{kb, m}
-use Rattle.coding.proofs.Known.{known, size-below, shape-here, word-checks}
+use Rattle.coding.proofs.PlanFields.{some-fields, index-below-t, shape-here, word-checks}
 use Rattle.coding.proofs.blocks.has_parity.Statement.{statement}
 use Rattle.coding.proofs.blocks.has_parity.Tie as tie
 
@@ -18,34 +18,34 @@ kb-requires c κs =
     let st = c .before .before .before .before .before .before .before in
     let a = st .args in
     let R = now (a .profile) in
-    let k = known R (now (a .bits)) (a .plan) (st .pre .0) in
-    k .taken
+    let k = some-fields R (a .plan) (st .pre .0 .some) in
+    k .accepted
 
 m-requires : tie.Need-m-requires
 m-requires c κs =
     let st = c .before .before .before .before .before .before .before .before in
     let a = st .args in
     let R = now (a .profile) in
-    let k = known R (now (a .bits)) (a .plan) (st .pre .0) in
-    k .taken
+    let k = some-fields R (a .plan) (st .pre .0 .some) in
+    k .accepted
 
 table-requires : tie.Need-table-requires
 table-requires c κs =
     let st = c .before .before .before .before .before .before .before .before .before in
     let a = st .args in
     let R = now (a .profile) in
-    let k = known R (now (a .bits)) (a .plan) (st .pre .0) in
-    (k .taken, size-below R (now (a .bits)) (a .plan) k)
+    let k = some-fields R (a .plan) (st .pre .0 .some) in
+    (k .accepted, index-below-t R (a .plan) k)
 
 checks-requires : tie.Need-checks-requires
 checks-requires c κs =
     let st = c .before .before .before .before .before .before .before .before .before .before .before in
     let a = st .args in
     let R = now (a .profile) in
-    let k = known R (now (a .bits)) (a .plan) (st .pre .0) in
+    let k = some-fields R (a .plan) (st .pre .0 .some) in
     let code = c .before .before .before .before .before .before .code in
     let long : length (code .last .1 .1 .1 .1 .1 .0) ≡ (kb R + m R) * a .plan .z = omega (arith, st .pre, code .kept .1 .1 .1 .1 .1 .0) in
-    rw (c .before .table .ensures, c .before .before .m .ensures .0, c .before .before .before .kb .ensures .0) (shape-here R (now (a .bits)) (a .plan) k, long)
+    rw (c .before .table .ensures, c .before .before .m .ensures .0, c .before .before .before .kb .ensures .0) (shape-here R (a .plan) k, long)
 
 same-length : tie.Need-same-length
 same-length c = search needs
@@ -55,7 +55,7 @@ returns c =
     let st = c .before .before .before .before .before .before .before .before .before .before .before .before in
     let a = st .args in
     let R = now (a .profile) in
-    let k = known R (now (a .bits)) (a .plan) (st .pre .0) in
+    let k = some-fields R (a .plan) (st .pre .0 .some) in
     let code = c .before .before .before .before .before .before .before .code in
     let checked = rw (c .before .before .table .ensures, c .before .before .before .m .ensures .0, c .before .before .before .before .kb .ensures .0) at (c .checks .ensures) in
     checked ∙ word-checks R (now (a .bits)) (a .plan) k (st .pre .0 .single) (a .start) (a .own) (st .pre .1) (st .pre .2) (code .last .1 .1 .1 .1 .1 .0) (code .ensures)

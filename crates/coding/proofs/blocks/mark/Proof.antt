@@ -1,4 +1,4 @@
--- `coding::blocks::mark` meets its contract. The loop's invariant: the places up to p are marked. Assumes nothing.
+-- `coding::blocks::mark` meets its contract. The loop's invariant: the places up to p are marked.
 use mathlib.Core.Path.{_≡_, refl}
 use Prim.Native.Nat.{_-_, _≤_}
 use native.Mathlib.Omega.{arith}
@@ -6,7 +6,7 @@ use lib.ListN.{length, length-set}
 use denote.Ref.{now}
 use borrow.Author.Needs.{needs}
 use Rattle.coding.specs.steps.Sending.{Marked}
-use Rattle.coding.proofs.Known.{marked-none, marked-more}
+use Rattle.coding.proofs.Filler.{marked-none, marked-more}
 use Rattle.coding.proofs.blocks.mark.Statement.{statement}
 use Rattle.coding.proofs.blocks.mark.Tie as tie
 

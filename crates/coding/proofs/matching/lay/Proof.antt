@@ -1,4 +1,4 @@
--- `coding::matching::lay` meets its contract. The loop's invariant: k of the n octets are laid. Assumes nothing.
+-- `coding::matching::lay` meets its contract. The loop's invariant: k of the n octets are laid.
 use mathlib.Core.Path.{_≡_, refl}
 use Prim.Native.Nat.{_-_, _≤_}
 use native.Mathlib.Omega.{arith}

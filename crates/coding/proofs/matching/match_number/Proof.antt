@@ -1,4 +1,4 @@
--- `coding::matching::match_number` meets its contract: its tests, in their order. Assumes nothing.
+-- `coding::matching::match_number` meets its contract: its tests, in their order.
 use mathlib.Core.Path.{sym, _∙_}
 use borrow.Author.Tests.{lt-ltb, le-ltb}
 use borrow.Author.Needs.{needs}
@@ -16,7 +16,7 @@ returns c = rw (sym (c .before .is-unmatchable .ensures) ∙ c .if1 .taken)
 
 returns-2 : tie.Need-returns-2
 unfolding matchNumber answered
-returns-2 c = rw (sym (c .before .before .is-unmatchable .ensures) ∙ c .before .if1 .left, lt-ltb _ _ (c .if2 .taken))
+returns-2 c = rw (sym (c .before .before .before .is-unmatchable .ensures) ∙ c .before .before .if1 .left, lt-ltb _ _ (c .if2 .taken))
 
 some-over-requires : tie.Need-some-over-requires
 some-over-requires c κs = search needs
@@ -24,12 +24,12 @@ some-over-requires c κs = search needs
 returns-3 : tie.Need-returns-3
 unfolding matchNumber answered
 returns-3 c =
-    rw (sym (c .before .before .before .before .is-unmatchable .ensures) ∙ c .before .before .before .if1 .left, le-ltb _ _ (c .before .before .if2 .left), sym (c .before .some-over .ensures) ∙ c .if3 .taken)
+    rw (sym (c .before .before .before .before .before .is-unmatchable .ensures) ∙ c .before .before .before .before .if1 .left, le-ltb _ _ (c .before .before .if2 .left), sym (c .before .some-over .ensures) ∙ c .if3 .taken)
 
 returns-4 : tie.Need-returns-4
 unfolding matchNumber answered
 returns-4 c =
-    rw (sym (c .before .before .before .before .is-unmatchable .ensures) ∙ c .before .before .before .if1 .left, le-ltb _ _ (c .before .before .if2 .left), sym (c .before .some-over .ensures) ∙ c .if3 .left)
+    rw (sym (c .before .before .before .before .before .is-unmatchable .ensures) ∙ c .before .before .before .before .if1 .left, le-ltb _ _ (c .before .before .if2 .left), sym (c .before .some-over .ensures) ∙ c .if3 .left)
 
 pub match-number-spec : {M : Type 1} → statement M
 match-number-spec =

@@ -1,5 +1,4 @@
 -- `coding::matching::none_kept` meets its contract. The loop's invariant: a place is kept from i on exactly where one is kept at all.
--- Assumes nothing.
 use mathlib.Core.Path.{_≡_, refl}
 use Prim.Native.Nat.{_-_}
 use lib.Dec.{eqb}

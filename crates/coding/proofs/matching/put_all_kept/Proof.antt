@@ -1,5 +1,4 @@
 -- `coding::matching::put_all_kept` meets its contract. The loop's invariant: the kept places before i are written, at most e of them.
--- Assumes nothing.
 use mathlib.Core.Path.{_≡_, refl}
 use Prim.Native.Nat.{_-_, _≤_}
 use native.Mathlib.Omega.{arith}
@@ -12,7 +11,7 @@ use Rattle.coding.proofs.matching.put_all_kept.Statement.{statement}
 use Rattle.coding.proofs.matching.put_all_kept.Tie as tie
 
 abbrev Inv-loop : tie.InvT-loop
-Inv-loop coded e out₀ k₀ i₀ out k i = (i ≤ length coded) × (length out ≡ length out₀) × Keeping coded out₀ e i k out
+Inv-loop coded e out₀ k₀ i₀ out k i = (i ≤ length coded) × (length out ≡ length out₀) × Keeping coded out₀ (e .0) i k out
 
 abbrev μ-loop : tie.MeasureT-loop
 μ-loop coded e out₀ k₀ i₀ out k i = length coded - i
@@ -20,7 +19,7 @@ abbrev μ-loop : tie.MeasureT-loop
 loop-holds : tie.Need-loop-holds Inv-loop μ-loop
 loop-holds c =
     let a = c .before .before .args in
-    (search needs, refl, keeping-none (now (a .coded)) (now (a .out)) (a .e))
+    (search needs, refl, keeping-none (now (a .coded)) (now (a .out)) (a .e .0))
 
 shared-slice-read-put-kept : tie.Need-shared-slice-read-put-kept Inv-loop μ-loop
 shared-slice-read-put-kept c = search needs
@@ -41,7 +40,7 @@ loop-again c =
     let a = st .args in
     let l = u .loop in
     let put = c .before .before .put-kept in
-    let turn = keeping-turn (now (a .coded)) (now (a .out)) (a .e) (l .i) (l .k) (put .result) (l .out) (put .last .1 .0) (omega (arith, u)) (st .pre) (l .inv .2) (put .ensures) in
+    let turn = keeping-turn (now (a .coded)) (now (a .out)) (a .e .0) (l .i) (l .k) (put .result) (l .out) (put .last .1 .0) (omega (arith, u)) (st .pre) (l .inv .2) (put .ensures) in
     (search needs, omega (arith, put .kept .1 .0), turn)
 
 same-length : tie.Need-same-length Inv-loop μ-loop

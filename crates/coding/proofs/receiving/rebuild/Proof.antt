@@ -1,23 +1,20 @@
 -- `coding::receiving::rebuild` meets its contract. The loop's invariant: the blocks before r were tested, and their own bits gathered.
--- Assumes nothing.
-use mathlib.Core.Path.{_≡_, refl, sym, ap, ap₂, _∙_}
-use mathlib.Core.Bool.{true, false, not, true≢false}
-use mathlib.Core.List.{List}
+use mathlib.Core.Path.{_≡_, refl, sym, ap, _∙_}
+use mathlib.Core.Bool.{true, true≢false}
 use Prim.Native.Nat.{ℕ, _+_, _-_, _≤_, _<_}
 use native.Mathlib.Omega.{arith}
 use lib.ListN.{length, take, drop}
 use denote.Ref.{now}
 use borrow.Author.Tests.{not-true, not-false}
 use borrow.Author.Needs.{needs}
-use Rattle.bits.specs.Ranges.{sumTo}
+use Rattle.bits.specs.Ranges.{sumBelow}
 use Rattle.bits.proofs.Lists.{bits-take, bits-drop, length-part}
 use Rattle.profile.specs.Plan.{blocks}
 use Rattle.coding.specs.Allocation.{share}
 use Rattle.coding.proofs.Shares.{shares-fit}
 use Rattle.bits.specs.declared.count.CodedBits.{CodedBits}
-use Rattle.coding.specs.steps.Receiving.{gathered}
 use Rattle.coding.proofs.Joining.{part-rest}
-use Rattle.coding.proofs.Rebuilt.{Walk, walk-none, walk-more, walk-done, rest-other, block-other, known-heard, room-here}
+use Rattle.coding.proofs.Rebuilt.{Walk, walk-none, walk-more, walk-done, rest-other, block-other, fields, room-here}
 use Rattle.coding.proofs.Sent.{own-fits, own-room, share-is, share-fits}
 use Rattle.coding.proofs.receiving.rebuild.Statement.{statement}
 use Rattle.coding.proofs.receiving.rebuild.Tie as tie
@@ -41,11 +38,10 @@ own-bits-requires c κs = let l = c in
     let R = now (a .profile) in
     let s = now (a .bits) in
     let h = st .pre .0 in
-    let k = known-heard R (a .nl) (a .qm) s (a .plan) h in
-    let t = gathered R (a .plan .bits) (a .nl) (a .qm) s in
+    let k = fields R (a .nl) (a .qm) s (a .plan) h in
     let i = l .before .loop in
     let order : i .r < a .plan .blocks = omega (arith, l) in
-    (omega (arith, k .count, k .cut .bits-high), omega (arith, order), omega (arith, k .blocks-is, k .cut .most))
+    (k .cut .bits-high, omega (arith, order), omega (arith, k .blocks-is, k .cut .most))
 
 share-of-requires : tie.Need-share-of-requires Inv-loop μ-loop
 share-of-requires c κs = let l = c .before in
@@ -54,28 +50,26 @@ share-of-requires c κs = let l = c .before in
     let R = now (a .profile) in
     let s = now (a .bits) in
     let h = st .pre .0 in
-    let k = known-heard R (a .nl) (a .qm) s (a .plan) h in
-    let t = gathered R (a .plan .bits) (a .nl) (a .qm) s in
+    let k = fields R (a .nl) (a .qm) s (a .plan) h in
     let i = l .before .loop in
     let order : i .r < a .plan .blocks = omega (arith, l) in
-    record { layers = h .heard .allocated .layers; order = h .heard .allocated .order; some = h .heard .allocated .some; most = h .heard .allocated .most; blocks = omega (arith, order) }
+    record { layers = h .receivable .allocated .layers; order = h .receivable .allocated .order; some = h .receivable .allocated .some; most = h .receivable .allocated .most; blocks = omega (arith, order) }
 
 add-is-sent-as : tie.Need-add-is-sent-as Inv-loop μ-loop
-add-is-sent-as c = let l = c .before .before in
+add-is-sent-as c = let l = c .before .before .before in
     let st = l .before .before .before .before .before .before in
     let a = st .args in
     let R = now (a .profile) in
     let s = now (a .bits) in
     let h = st .pre .0 in
-    let k = known-heard R (a .nl) (a .qm) s (a .plan) h in
-    let t = gathered R (a .plan .bits) (a .nl) (a .qm) s in
+    let k = fields R (a .nl) (a .qm) s (a .plan) h in
     let i = l .before .loop in
     let order : i .r < a .plan .blocks = omega (arith, l) in
-    let own = c .before .own-bits in
-    let e = c .share-of in
-    let mine = share-is R t (a .plan) k (a .nl) (a .qm) (length s) (i .r) (e .result .0) (ap (λ (x : CodedBits). x .0) (e .ensures)) in
-    let fits = share-fits R t (a .plan) k (a .nl) (a .qm) (length s) (i .r) (i .at) (e .result .0) order (i .inv .2 .stands) mine in
-    omega (arith, fits, h .heard .allocated .most)
+    let own = c .before .before .own-bits in
+    let e = c .before .share-of in
+    let mine = share-is R (a .plan) k (a .nl) (a .qm) (length s) (i .r) (e .result .0) (ap (λ (x : CodedBits). x .0) (e .ensures)) in
+    let fits = share-fits R (a .plan) k (a .nl) (a .qm) (length s) (i .r) (i .at) (e .result .0) order (i .inv .2 .stands) mine in
+    omega (arith, fits, h .receivable .allocated .most)
 
 sub-is-sent-as : tie.Need-sub-is-sent-as Inv-loop μ-loop
 sub-is-sent-as c = search needs
@@ -84,44 +78,42 @@ part-is-sent-as-start : tie.Need-part-is-sent-as-start Inv-loop μ-loop
 part-is-sent-as-start c = search needs
 
 part-is-sent-as-end : tie.Need-part-is-sent-as-end Inv-loop μ-loop
-part-is-sent-as-end c = let l = c .before .before in
+part-is-sent-as-end c = let l = c .before .before .before in
     let st = l .before .before .before .before .before .before in
     let a = st .args in
     let R = now (a .profile) in
     let s = now (a .bits) in
     let h = st .pre .0 in
-    let k = known-heard R (a .nl) (a .qm) s (a .plan) h in
-    let t = gathered R (a .plan .bits) (a .nl) (a .qm) s in
+    let k = fields R (a .nl) (a .qm) s (a .plan) h in
     let i = l .before .loop in
     let order : i .r < a .plan .blocks = omega (arith, l) in
-    let own = c .before .own-bits in
-    let e = c .share-of in
-    let mine = share-is R t (a .plan) k (a .nl) (a .qm) (length s) (i .r) (e .result .0) (ap (λ (x : CodedBits). x .0) (e .ensures)) in
-    let fits = share-fits R t (a .plan) k (a .nl) (a .qm) (length s) (i .r) (i .at) (e .result .0) order (i .inv .2 .stands) mine in
+    let own = c .before .before .own-bits in
+    let e = c .before .share-of in
+    let mine = share-is R (a .plan) k (a .nl) (a .qm) (length s) (i .r) (e .result .0) (ap (λ (x : CodedBits). x .0) (e .ensures)) in
+    let fits = share-fits R (a .plan) k (a .nl) (a .qm) (length s) (i .r) (i .at) (e .result .0) order (i .inv .2 .stands) mine in
     fits
 
 is-sent-as-requires : tie.Need-is-sent-as-requires Inv-loop μ-loop
-is-sent-as-requires c κs = let l = c .before .before .before .before in
+is-sent-as-requires c κs = let l = c .before .before .before .before .before in
     let st = l .before .before .before .before .before .before in
     let a = st .args in
     let R = now (a .profile) in
     let s = now (a .bits) in
     let h = st .pre .0 in
-    let k = known-heard R (a .nl) (a .qm) s (a .plan) h in
-    let t = gathered R (a .plan .bits) (a .nl) (a .qm) s in
+    let k = fields R (a .nl) (a .qm) s (a .plan) h in
     let i = l .before .loop in
     let order : i .r < a .plan .blocks = omega (arith, l) in
-    let own = c .before .before .before .own-bits in
-    let e = c .before .before .share-of in
-    let mine = share-is R t (a .plan) k (a .nl) (a .qm) (length s) (i .r) (e .result .0) (ap (λ (x : CodedBits). x .0) (e .ensures)) in
-    let fits = share-fits R t (a .plan) k (a .nl) (a .qm) (length s) (i .r) (i .at) (e .result .0) order (i .inv .2 .stands) mine in
+    let own = c .before .before .before .before .own-bits in
+    let e = c .before .before .before .share-of in
+    let mine = share-is R (a .plan) k (a .nl) (a .qm) (length s) (i .r) (e .result .0) (ap (λ (x : CodedBits). x .0) (e .ensures)) in
+    let fits = share-fits R (a .plan) k (a .nl) (a .qm) (length s) (i .r) (i .at) (e .result .0) order (i .inv .2 .stands) mine in
     let whole : i .at + e .result .0 - i .at ≡ e .result .0 = omega arith in
     let size : length (take (i .at + e .result .0 - i .at) (drop (i .at) s)) ≡ e .result .0 = rw whole (length-part (e .result .0) (i .at) s fits) in (
-      record { octets = h .octets; taken = h .heard .taken; plan = h .plan },
-      own-room R t (a .plan) k (i .r) (own .result) (own .ensures),
+      record { octets = h .octets; taken = h .receivable .taken; plan = h .plan },
+      own-room R (a .plan) k (i .r) (own .result) (own .ensures),
       i .inv .1 ∙ st .pre .1,
       omega (arith, size, i .inv .1, st .pre .1, room-here R (a .nl) (a .qm) s (a .plan) h (i .r) (own .result) (e .result .0) order (own .ensures) mine),
-      bits-take (i .at + e .result .0 - i .at) (drop (i .at) s) (bits-drop (i .at) s (h .heard .single)),
+      bits-take (i .at + e .result .0 - i .at) (drop (i .at) s) (bits-drop (i .at) s (h .receivable .single)),
     )
 
 same-length : tie.Need-same-length Inv-loop μ-loop
@@ -131,20 +123,19 @@ same-length-2 : tie.Need-same-length-2 Inv-loop μ-loop
 same-length-2 c = search needs
 
 returns : tie.Need-returns Inv-loop μ-loop
-returns c = let l = c .before .before .before .before .before .before .before .before in
+returns c = let l = c .before .before .before .before .before .before .before .before .before in
     let st = l .before .before .before .before .before .before in
     let a = st .args in
     let R = now (a .profile) in
     let s = now (a .bits) in
     let h = st .pre .0 in
-    let k = known-heard R (a .nl) (a .qm) s (a .plan) h in
-    let t = gathered R (a .plan .bits) (a .nl) (a .qm) s in
+    let k = fields R (a .nl) (a .qm) s (a .plan) h in
     let i = l .before .loop in
     let order : i .r < a .plan .blocks = omega (arith, l) in
-    let own = c .before .before .before .before .before .before .before .own-bits in
-    let e = c .before .before .before .before .before .before .share-of in
-    let mine = share-is R t (a .plan) k (a .nl) (a .qm) (length s) (i .r) (e .result .0) (ap (λ (x : CodedBits). x .0) (e .ensures)) in
-    let fits = share-fits R t (a .plan) k (a .nl) (a .qm) (length s) (i .r) (i .at) (e .result .0) order (i .inv .2 .stands) mine in
+    let own = c .before .before .before .before .before .before .before .before .own-bits in
+    let e = c .before .before .before .before .before .before .before .share-of in
+    let mine = share-is R (a .plan) k (a .nl) (a .qm) (length s) (i .r) (e .result .0) (ap (λ (x : CodedBits). x .0) (e .ensures)) in
+    let fits = share-fits R (a .plan) k (a .nl) (a .qm) (length s) (i .r) (i .at) (e .result .0) order (i .inv .2 .stands) mine in
     let whole : i .at + e .result .0 - i .at ≡ e .result .0 = omega arith in
     let is = c .before .before .before .is-sent-as in
     let told = rw whole at (is .ensures) in
@@ -156,86 +147,82 @@ returns c = let l = c .before .before .before .before .before .before .before .b
     }
 
 lay-requires : tie.Need-lay-requires Inv-loop μ-loop
-lay-requires c κs = let l = c .before .before .before .before .before .before .before .before .before in
+lay-requires c κs = let l = c .before .before .before .before .before .before .before .before .before .before in
     let st = l .before .before .before .before .before .before in
     let a = st .args in
     let R = now (a .profile) in
     let s = now (a .bits) in
     let h = st .pre .0 in
-    let k = known-heard R (a .nl) (a .qm) s (a .plan) h in
-    let t = gathered R (a .plan .bits) (a .nl) (a .qm) s in
+    let k = fields R (a .nl) (a .qm) s (a .plan) h in
     let i = l .before .loop in
     let order : i .r < a .plan .blocks = omega (arith, l) in
-    let own = c .before .before .before .before .before .before .before .before .own-bits in
-    let e = c .before .before .before .before .before .before .before .share-of in
-    let mine = share-is R t (a .plan) k (a .nl) (a .qm) (length s) (i .r) (e .result .0) (ap (λ (x : CodedBits). x .0) (e .ensures)) in
-    let fits = share-fits R t (a .plan) k (a .nl) (a .qm) (length s) (i .r) (i .at) (e .result .0) order (i .inv .2 .stands) mine in (
+    let own = c .before .before .before .before .before .before .before .before .before .own-bits in
+    let e = c .before .before .before .before .before .before .before .before .share-of in
+    let mine = share-is R (a .plan) k (a .nl) (a .qm) (length s) (i .r) (e .result .0) (ap (λ (x : CodedBits). x .0) (e .ensures)) in
+    let fits = share-fits R (a .plan) k (a .nl) (a .qm) (length s) (i .r) (i .at) (e .result .0) order (i .inv .2 .stands) mine in (
       omega (arith, fits, room-here R (a .nl) (a .qm) s (a .plan) h (i .r) (own .result) (e .result .0) order (own .ensures) mine),
-      omega (arith, own-fits R t (a .plan) k (i .r) (i .start) (own .result) order (i .inv .2 .starts) (own .ensures), k .cut .bits-high, i .inv .2 .same, st .pre .2),
+      omega (arith, own-fits R (a .plan) k (i .r) (i .start) (own .result) order (i .inv .2 .starts) (own .ensures), k .cut .bits-high, i .inv .2 .same, st .pre .2),
     )
 
 add-start : tie.Need-add-start Inv-loop μ-loop
-add-start c = let l = c .before .before .before .before .before .before .before .before .before .before .before .before in
+add-start c = let l = c .before .before .before .before .before .before .before .before .before .before .before .before .before in
     let st = l .before .before .before .before .before .before in
     let a = st .args in
     let R = now (a .profile) in
     let s = now (a .bits) in
     let h = st .pre .0 in
-    let k = known-heard R (a .nl) (a .qm) s (a .plan) h in
-    let t = gathered R (a .plan .bits) (a .nl) (a .qm) s in
+    let k = fields R (a .nl) (a .qm) s (a .plan) h in
     let i = l .before .loop in
     let order : i .r < a .plan .blocks = omega (arith, l) in
-    let own = c .before .before .before .before .before .before .before .before .before .before .before .own-bits in
-    let e = c .before .before .before .before .before .before .before .before .before .before .share-of in
-    let mine = share-is R t (a .plan) k (a .nl) (a .qm) (length s) (i .r) (e .result .0) (ap (λ (x : CodedBits). x .0) (e .ensures)) in
-    let fits = share-fits R t (a .plan) k (a .nl) (a .qm) (length s) (i .r) (i .at) (e .result .0) order (i .inv .2 .stands) mine in
-    omega (arith, own-fits R t (a .plan) k (i .r) (i .start) (own .result) order (i .inv .2 .starts) (own .ensures), k .cut .bits-high)
+    let own = c .before .before .before .before .before .before .before .before .before .before .before .before .own-bits in
+    let e = c .before .before .before .before .before .before .before .before .before .before .before .share-of in
+    let mine = share-is R (a .plan) k (a .nl) (a .qm) (length s) (i .r) (e .result .0) (ap (λ (x : CodedBits). x .0) (e .ensures)) in
+    let fits = share-fits R (a .plan) k (a .nl) (a .qm) (length s) (i .r) (i .at) (e .result .0) order (i .inv .2 .stands) mine in
+    omega (arith, own-fits R (a .plan) k (i .r) (i .start) (own .result) order (i .inv .2 .starts) (own .ensures), k .cut .bits-high)
 
 add-at : tie.Need-add-at Inv-loop μ-loop
-add-at c = let l = c .before .before .before .before .before .before .before .before .before .before .before .before in
+add-at c = let l = c .before .before .before .before .before .before .before .before .before .before .before .before .before .before in
     let st = l .before .before .before .before .before .before in
     let a = st .args in
     let R = now (a .profile) in
     let s = now (a .bits) in
     let h = st .pre .0 in
-    let k = known-heard R (a .nl) (a .qm) s (a .plan) h in
-    let t = gathered R (a .plan .bits) (a .nl) (a .qm) s in
+    let k = fields R (a .nl) (a .qm) s (a .plan) h in
     let i = l .before .loop in
     let order : i .r < a .plan .blocks = omega (arith, l) in
-    let own = c .before .before .before .before .before .before .before .before .before .before .before .own-bits in
-    let e = c .before .before .before .before .before .before .before .before .before .before .share-of in
-    let mine = share-is R t (a .plan) k (a .nl) (a .qm) (length s) (i .r) (e .result .0) (ap (λ (x : CodedBits). x .0) (e .ensures)) in
-    let fits = share-fits R t (a .plan) k (a .nl) (a .qm) (length s) (i .r) (i .at) (e .result .0) order (i .inv .2 .stands) mine in
-    omega (arith, fits, h .heard .allocated .most)
+    let own = c .before .before .before .before .before .before .before .before .before .before .before .before .before .own-bits in
+    let e = c .before .before .before .before .before .before .before .before .before .before .before .before .share-of in
+    let mine = share-is R (a .plan) k (a .nl) (a .qm) (length s) (i .r) (e .result .0) (ap (λ (x : CodedBits). x .0) (e .ensures)) in
+    let fits = share-fits R (a .plan) k (a .nl) (a .qm) (length s) (i .r) (i .at) (e .result .0) order (i .inv .2 .stands) mine in
+    omega (arith, fits, h .receivable .allocated .most)
 
 add-r : tie.Need-add-r Inv-loop μ-loop
-add-r c = omega (arith, c .before .before .before .before .before .before .before .before .before .before .before .before)
+add-r c = omega (arith, c .before .before .before .before .before .before .before .before .before .before .before .before .before .before)
 
 loop-less : tie.Need-loop-less Inv-loop μ-loop
 loop-less c = search needs
 
 loop-again : tie.Need-loop-again Inv-loop μ-loop
-loop-again c = let l = c .before .before .before .before .before .before .before .before .before .before .before .before in
+loop-again c = let l = c .before .before .before .before .before .before .before .before .before .before .before .before .before .before in
     let st = l .before .before .before .before .before .before in
     let a = st .args in
     let R = now (a .profile) in
     let s = now (a .bits) in
     let h = st .pre .0 in
-    let k = known-heard R (a .nl) (a .qm) s (a .plan) h in
-    let t = gathered R (a .plan .bits) (a .nl) (a .qm) s in
+    let k = fields R (a .nl) (a .qm) s (a .plan) h in
     let i = l .before .loop in
     let order : i .r < a .plan .blocks = omega (arith, l) in
-    let own = c .before .before .before .before .before .before .before .before .before .before .before .own-bits in
-    let e = c .before .before .before .before .before .before .before .before .before .before .share-of in
-    let mine = share-is R t (a .plan) k (a .nl) (a .qm) (length s) (i .r) (e .result .0) (ap (λ (x : CodedBits). x .0) (e .ensures)) in
-    let fits = share-fits R t (a .plan) k (a .nl) (a .qm) (length s) (i .r) (i .at) (e .result .0) order (i .inv .2 .stands) mine in
+    let own = c .before .before .before .before .before .before .before .before .before .before .before .before .before .own-bits in
+    let e = c .before .before .before .before .before .before .before .before .before .before .before .before .share-of in
+    let mine = share-is R (a .plan) k (a .nl) (a .qm) (length s) (i .r) (e .result .0) (ap (λ (x : CodedBits). x .0) (e .ensures)) in
+    let fits = share-fits R (a .plan) k (a .nl) (a .qm) (length s) (i .r) (i .at) (e .result .0) order (i .inv .2 .stands) mine in
     let whole : i .at + e .result .0 - i .at ≡ e .result .0 = omega arith in
-    let is = c .before .before .before .before .before .before .before .is-sent-as in
+    let is = c .before .before .before .before .before .before .before .before .is-sent-as in
     let told = rw whole at (is .ensures) in (
       omega (arith, order),
       is .kept .1 .1 .1 .1 .0 ∙ i .inv .1,
       walk-more R (a .nl) (a .qm) s (a .plan) h (i .r) (i .at) (e .result .0) (own .result) order (i .inv .2 .stands) mine (own .ensures)
-          (is .result) told (now (a .room)) (i .room) _ (i .start) (not-false _ (c .before .before .before .before .if1 .left)) (st .pre .2) (i .inv .2) (c .before .before .lay .ensures),
+          (is .result) told (now (a .room)) (i .room) _ (i .start) (not-false _ (c .before .before .before .before .before .if1 .left)) (st .pre .2) (i .inv .2) (c .before .before .before .lay .ensures),
     )
 
 sub-some-over : tie.Need-sub-some-over Inv-loop μ-loop
@@ -244,11 +231,11 @@ sub-some-over c = let st = c .before .before .before .before .before .before in
     let R = now (a .profile) in
     let s = now (a .bits) in
     let h = st .pre .0 in
-    let k = known-heard R (a .nl) (a .qm) s (a .plan) h in
+    let k = fields R (a .nl) (a .qm) s (a .plan) h in
     let i = c .before .loop in
     let last : i .r ≡ a .plan .blocks = omega (arith, i .inv .0, c) in
-    let most = shares-fit (a .nl) (a .qm) (length s) (blocks R (length (gathered R (a .plan .bits) (a .nl) (a .qm) s))) in
-    let to = ap (λ (n : ℕ). sumTo n (λ j. share (a .nl) (a .qm) (length s) (blocks R (length (gathered R (a .plan .bits) (a .nl) (a .qm) s))) j .0)) (last ∙ k .blocks-is) in
+    let most = shares-fit (a .nl) (a .qm) (length s) (blocks R (a .plan .bits)) in
+    let to = ap (λ (n : ℕ). sumBelow n (λ j. share (a .nl) (a .qm) (length s) (blocks R (a .plan .bits)) j .0)) (last ∙ k .blocks-is) in
     omega (arith, most, to, i .inv .2 .stands)
 
 part-some-over-start : tie.Need-part-some-over-start Inv-loop μ-loop
@@ -257,11 +244,11 @@ part-some-over-start c = let st = c .before .before .before .before .before .bef
     let R = now (a .profile) in
     let s = now (a .bits) in
     let h = st .pre .0 in
-    let k = known-heard R (a .nl) (a .qm) s (a .plan) h in
+    let k = fields R (a .nl) (a .qm) s (a .plan) h in
     let i = c .before .loop in
     let last : i .r ≡ a .plan .blocks = omega (arith, i .inv .0, c) in
-    let most = shares-fit (a .nl) (a .qm) (length s) (blocks R (length (gathered R (a .plan .bits) (a .nl) (a .qm) s))) in
-    let to = ap (λ (n : ℕ). sumTo n (λ j. share (a .nl) (a .qm) (length s) (blocks R (length (gathered R (a .plan .bits) (a .nl) (a .qm) s))) j .0)) (last ∙ k .blocks-is) in
+    let most = shares-fit (a .nl) (a .qm) (length s) (blocks R (a .plan .bits)) in
+    let to = ap (λ (n : ℕ). sumBelow n (λ j. share (a .nl) (a .qm) (length s) (blocks R (a .plan .bits)) j .0)) (last ∙ k .blocks-is) in
     omega (arith, most, to, i .inv .2 .stands)
 
 part-some-over-end : tie.Need-part-some-over-end Inv-loop μ-loop
@@ -282,7 +269,7 @@ returns-2 c = let st = c .before .before .before .before .before .before .before
     let R = now (a .profile) in
     let s = now (a .bits) in
     let h = st .pre .0 in
-    let k = known-heard R (a .nl) (a .qm) s (a .plan) h in
+    let k = fields R (a .nl) (a .qm) s (a .plan) h in
     let i = c .before .before .before .loop in
     let last : i .r ≡ a .plan .blocks = omega (arith, i .inv .0, c .before .before) in
     let over = c .some-over in

@@ -1,4 +1,4 @@
--- `coding::receiving::rebuild_bits` meets its contract. Assumes nothing.
+-- `coding::receiving::rebuild_bits` meets its contract.
 use mathlib.Core.Path.{sym, ap₂, _∙_}
 use Prim.Native.Nat.{ℕ, _+_, _*_}
 use native.Mathlib.Omega.{arith}
@@ -7,9 +7,8 @@ use lib.Seq.{length-take-le}
 use denote.Ref.{now}
 use borrow.Author.Needs.{needs}
 use Rattle.profile.specs.Record.{kb, m}
-use Rattle.coding.specs.steps.Receiving.{gathered}
-use Rattle.coding.proofs.Known.{word-most}
-use Rattle.coding.proofs.Rebuilt.{known-heard}
+use Rattle.coding.proofs.PlanFields.{word-most}
+use Rattle.coding.proofs.Rebuilt.{fields}
 use Rattle.coding.proofs.receiving.rebuild_bits.Statement.{statement}
 use Rattle.coding.proofs.receiving.rebuild_bits.Tie as tie
 
@@ -17,15 +16,15 @@ kb-requires : tie.Need-kb-requires
 kb-requires c κs =
     let st = c .before .before .before in
     let a = st .args in
-    let k = known-heard (now (a .profile)) (a .nl) (a .qm) (now (a .bits)) (a .plan) (st .pre .0) in
-    k .taken
+    let k = fields (now (a .profile)) (a .nl) (a .qm) (now (a .bits)) (a .plan) (st .pre .0) in
+    k .accepted
 
 m-requires : tie.Need-m-requires
 m-requires c κs =
     let st = c .before .before .before .before in
     let a = st .args in
-    let k = known-heard (now (a .profile)) (a .nl) (a .qm) (now (a .bits)) (a .plan) (st .pre .0) in
-    k .taken
+    let k = fields (now (a .profile)) (a .nl) (a .qm) (now (a .bits)) (a .plan) (st .pre .0) in
+    k .accepted
 
 add-n : tie.Need-add-n
 add-n c = search needs
@@ -34,31 +33,31 @@ mul-n : tie.Need-mul-n
 mul-n c =
     let st = c .before .before .before .before .before in
     let a = st .args in
-    let k = known-heard (now (a .profile)) (a .nl) (a .qm) (now (a .bits)) (a .plan) (st .pre .0) in
-    let most = word-most (now (a .profile)) (gathered (now (a .profile)) (a .plan .bits) (a .nl) (a .qm) (now (a .bits))) (a .plan) k in
+    let k = fields (now (a .profile)) (a .nl) (a .qm) (now (a .bits)) (a .plan) (st .pre .0) in
+    let most = word-most (now (a .profile)) (a .plan) k in
     rw (c .before .kb .ensures .0, c .m .ensures .0) (omega (arith, most))
 
 array-borrow-prefix-word : tie.Need-array-borrow-prefix-word
 array-borrow-prefix-word c =
     let st = c .before .before .before .before .before in
     let a = st .args in
-    let k = known-heard (now (a .profile)) (a .nl) (a .qm) (now (a .bits)) (a .plan) (st .pre .0) in
-    rw (c .before .kb .ensures .0, c .m .ensures .0) (word-most (now (a .profile)) (gathered (now (a .profile)) (a .plan .bits) (a .nl) (a .qm) (now (a .bits))) (a .plan) k)
+    let k = fields (now (a .profile)) (a .nl) (a .qm) (now (a .bits)) (a .plan) (st .pre .0) in
+    rw (c .before .kb .ensures .0, c .m .ensures .0) (word-most (now (a .profile)) (a .plan) k)
 
 slice-aggregate-rebuild : tie.Need-slice-aggregate-rebuild
 slice-aggregate-rebuild c =
     let st = c .before .before .before .before .before .before in
     let a = st .args in
-    let k = known-heard (now (a .profile)) (a .nl) (a .qm) (now (a .bits)) (a .plan) (st .pre .0) in
-    let most = word-most (now (a .profile)) (gathered (now (a .profile)) (a .plan .bits) (a .nl) (a .qm) (now (a .bits))) (a .plan) k in
+    let k = fields (now (a .profile)) (a .nl) (a .qm) (now (a .bits)) (a .plan) (st .pre .0) in
+    let most = word-most (now (a .profile)) (a .plan) k in
     sym (length-take-le {A = ℕ} _ (replicate 2592 0) (rw (c .before .before .kb .ensures .0, c .before .m .ensures .0) most))
 
 rebuild-requires : tie.Need-rebuild-requires
 rebuild-requires c κs =
     let st = c .before .before .before .before .before .before .before in
     let a = st .args in
-    let k = known-heard (now (a .profile)) (a .nl) (a .qm) (now (a .bits)) (a .plan) (st .pre .0) in
-    let most = word-most (now (a .profile)) (gathered (now (a .profile)) (a .plan .bits) (a .nl) (a .qm) (now (a .bits))) (a .plan) k in
+    let k = fields (now (a .profile)) (a .nl) (a .qm) (now (a .bits)) (a .plan) (st .pre .0) in
+    let most = word-most (now (a .profile)) (a .plan) k in
     let kb-is = c .before .before .before .kb .ensures .0 in
     let m-is = c .before .before .m .ensures .0 in
     let n = (c .before .before .before .kb .result + c .before .before .m .result) * a .plan .z in

@@ -1,6 +1,6 @@
--- `coding::receiving::some_lack` meets its contract. The loop's invariant: no block before k lacks room. Assumes nothing.
-use mathlib.Core.Path.{_≡_, refl, sym, ap, ap₂, _∙_}
-use mathlib.Core.Bool.{Bool, true, false}
+-- `coding::receiving::some_lack` meets its contract. The loop's invariant: no block before k lacks room.
+use mathlib.Core.Path.{_≡_, sym, _∙_}
+use mathlib.Core.Bool.{Bool, false}
 use Prim.Native.Nat.{ℕ, _-_, _≤_, _<_}
 use native.Mathlib.Omega.{arith}
 use borrow.Author.Count.{below-more}
@@ -15,19 +15,19 @@ use Rattle.coding.proofs.receiving.some_lack.Statement.{statement}
 use Rattle.coding.proofs.receiving.some_lack.Tie as tie
 
 abbrev lacks : ℕ → ℕ → ℕ → ℕ → ℕ → ℕ → CodedBits → ℕ → Bool
-lacks b c places n nl qm g i = ltb (share nl qm (g .0) c i .0) (n - (places - ownBits b c i))
+lacks b c places coded nl qm g i = ltb (share nl qm (g .0) c i .0) (coded - (places - ownBits b c i))
 
 -- the test as the code makes it
-tested : (b c places n nl qm : ℕ) (g : CodedBits) (r own : ℕ) (e : CodedBits) → own ≡ ownBits b c r → e ≡ share nl qm (g .0) c r
-    → ltb (e .0) (n - (places - own)) ≡ lacks b c places n nl qm g r
-tested b c places n nl qm g r own e p q = rw (p, q)
+tested : (b c places coded nl qm : ℕ) (g : CodedBits) (r own : ℕ) (e : CodedBits) → own ≡ ownBits b c r → e ≡ share nl qm (g .0) c r
+    → ltb (e .0) (coded - (places - own)) ≡ lacks b c places coded nl qm g r
+tested b c places coded nl qm g r own e p q = rw (p, q)
 
 abbrev Inv-loop : tie.InvT-loop
-Inv-loop b c places n nl qm g k₀ k =
-    (k ≤ c) × ((i : ℕ) → i < k → lacks b c places n nl qm g i ≡ false)
+Inv-loop b c places coded nl qm g k₀ k =
+    (k ≤ c) × ((i : ℕ) → i < k → lacks b c places coded nl qm g i ≡ false)
 
 abbrev μ-loop : tie.MeasureT-loop
-μ-loop b c places n nl qm g k₀ k = c - k
+μ-loop b c places coded nl qm g k₀ k = c - k
 
 loop-holds : tie.Need-loop-holds Inv-loop μ-loop
 loop-holds c = (search needs, λ i h. absurd (omega arith))
@@ -38,17 +38,17 @@ own-bits-requires c κs = let p = c .before .before .pre in (p .0, omega arith, 
 share-of-requires : tie.Need-share-of-requires Inv-loop μ-loop
 share-of-requires c κs = c .before .before .before .pre .5
 
-sub-if1 : tie.Need-sub-if1 Inv-loop μ-loop
-sub-if1 c = rw (c .before .own-bits .ensures) (c .before .before .before .before .pre .4 _)
+sub-t13 : tie.Need-sub-t13 Inv-loop μ-loop
+sub-t13 c = rw (c .before .own-bits .ensures) (c .before .before .before .before .pre .4 _)
 
-sub-if1-2 : tie.Need-sub-if1-2 Inv-loop μ-loop
-sub-if1-2 c = let p = c .before .before .before .before .pre in omega (arith, p .3)
+sub-t14 : tie.Need-sub-t14 Inv-loop μ-loop
+sub-t14 c = let p = c .before .before .before .before .pre in omega (arith, p .3)
 
 returns : tie.Need-returns Inv-loop μ-loop
-returns c = let a = c .before .before .before .before .before .args in
-    let i = c .before .before .before .before .loop in
-    sym (any-of (a .c) (lacks (a .b) (a .c) (a .places) (a .n) (a .nl) (a .qm) (a .g)) (i .k) (omega (arith, c .before .before .before))
-    (sym (tested (a .b) (a .c) (a .places) (a .n) (a .nl) (a .qm) (a .g) (i .k) _ _ (c .before .before .own-bits .ensures) (c .before .share-of .ensures)) ∙ lt-ltb _ _ (c .if1 .taken)))
+returns c = let a = c .before .before .before .before .before .before .before .args in
+    let i = c .before .before .before .before .before .before .loop in
+    sym (any-of (a .c) (lacks (a .b) (a .c) (a .places) (a .coded) (a .nl) (a .qm) (a .g)) (i .k) (omega (arith, c .before .before .before .before .before))
+    (sym (tested (a .b) (a .c) (a .places) (a .coded) (a .nl) (a .qm) (a .g) (i .k) _ _ (c .before .before .before .before .own-bits .ensures) (c .before .before .before .share-of .ensures)) ∙ lt-ltb _ _ (c .if1 .taken)))
 
 add-k : tie.Need-add-k Inv-loop μ-loop
 add-k c = search needs
@@ -57,17 +57,17 @@ loop-less : tie.Need-loop-less Inv-loop μ-loop
 loop-less c = search needs
 
 loop-again : tie.Need-loop-again Inv-loop μ-loop
-loop-again c = let a = c .before .before .before .before .before .args in
-    let i = c .before .before .before .before .loop in (
-      omega (arith, c .before .before .before),
-      below-more (λ k. lacks (a .b) (a .c) (a .places) (a .n) (a .nl) (a .qm) (a .g) k ≡ false) (i .k) (i .inv .1)
-          (sym (tested (a .b) (a .c) (a .places) (a .n) (a .nl) (a .qm) (a .g) (i .k) _ _ (c .before .before .own-bits .ensures) (c .before .share-of .ensures)) ∙ le-ltb _ _ (c .if1 .left)),
+loop-again c = let a = c .before .before .before .before .before .before .before .args in
+    let i = c .before .before .before .before .before .before .loop in (
+      omega (arith, c .before .before .before .before .before),
+      below-more (λ k. lacks (a .b) (a .c) (a .places) (a .coded) (a .nl) (a .qm) (a .g) k ≡ false) (i .k) (i .inv .1)
+          (sym (tested (a .b) (a .c) (a .places) (a .coded) (a .nl) (a .qm) (a .g) (i .k) _ _ (c .before .before .before .before .own-bits .ensures) (c .before .before .before .share-of .ensures)) ∙ le-ltb _ _ (c .if1 .left)),
     )
 
 returns-2 : tie.Need-returns-2 Inv-loop μ-loop
 returns-2 c = let a = c .before .before .args in
     let i = c .before .loop in
-    sym (any-none (a .c) (lacks (a .b) (a .c) (a .places) (a .n) (a .nl) (a .qm) (a .g)) (λ k h. i .inv .1 k (omega (arith, c))))
+    sym (any-none (a .c) (lacks (a .b) (a .c) (a .places) (a .coded) (a .nl) (a .qm) (a .g)) (λ k h. i .inv .1 k (omega (arith, c))))
 
 pub some-lack-spec : {M : Type 1} → statement M
 some-lack-spec =
@@ -78,8 +78,8 @@ some-lack-spec =
     loop-holds
     own-bits-requires
     share-of-requires
-    sub-if1
-    sub-if1-2
+    sub-t13
+    sub-t14
     returns
     add-k
     loop-less

@@ -1,7 +1,7 @@
 -- `coding::sending::all_have_parity` meets its contract. The loop's invariant: the blocks before r have parity bits, and `start` is where
--- block r's own bits begin. Assumes nothing.
-use mathlib.Core.Path.{_≡_, refl, sym, ap₂, _∙_}
-use mathlib.Core.Bool.{true, false}
+-- block r's own bits begin.
+use mathlib.Core.Path.{_≡_, refl, sym, ap, _∙_}
+use mathlib.Core.Bool.{true, false, not}
 use Prim.Native.Nat.{ℕ, _-_, _≤_, _<_}
 use native.Mathlib.Omega.{arith}
 use lib.ListN.{length}
@@ -9,20 +9,19 @@ use denote.Ref.{now}
 use borrow.Author.Count.{below-more}
 use borrow.Author.Tests.{not-true, not-false}
 use borrow.Author.Needs.{needs}
-use Rattle.bits.proofs.Ranges.{all-of, all-fails}
-use Rattle.profile.specs.Plan.{blocks, ownBits}
+use Rattle.bits.proofs.Ranges.{any-of, any-none}
+use Rattle.profile.specs.Plan.{blocks}
 use Rattle.coding.specs.Cutting.{ownStart}
-use Rattle.coding.specs.Blocks.{blockHasParity}
-use Rattle.coding.specs.steps.Sending.{allHaveParity}
-use Rattle.coding.proofs.Known.{known}
-use Rattle.coding.proofs.Sent.{start-none, start-turn, own-fits, own-room, parity-is}
+use Rattle.coding.specs.Blocks.{blockHasParity, someWithoutParity}
+use Rattle.coding.proofs.PlanFields.{some-fields}
+use Rattle.coding.proofs.Sent.{start-none, start-turn, own-is, own-fits, own-room, parity-is}
 use Rattle.coding.proofs.sending.all_have_parity.Statement.{statement}
 use Rattle.coding.proofs.sending.all_have_parity.Tie as tie
 
 abbrev Inv-loop : tie.InvT-loop
 Inv-loop profile plan bits word₀ b c start₀ r₀ word start r =
-    (r ≤ plan .blocks) × (start ≡ ownStart profile (length bits) r) × (length word ≡ length word₀)
-    × ((i : ℕ) → i < r → blockHasParity profile bits i ≡ true)
+    (r ≤ plan .blocks) × (start ≡ ownStart profile (plan .bits) r) × (length word ≡ length word₀)
+    × ((i : ℕ) → i < r → blockHasParity profile (plan .bits) bits i ≡ true)
 
 abbrev μ-loop : tie.MeasureT-loop
 μ-loop profile plan bits word₀ b c start₀ r₀ word start r = plan .blocks - r
@@ -30,7 +29,7 @@ abbrev μ-loop : tie.MeasureT-loop
 loop-holds : tie.Need-loop-holds Inv-loop μ-loop
 loop-holds c =
     let a = c .before .before .before .args in
-    (search needs, sym (start-none (now (a .profile)) (length (now (a .bits)))), refl, λ i h. absurd (omega arith))
+    (search needs, sym (start-none (now (a .profile)) (a .plan .bits)), refl, λ i h. absurd (omega arith))
 
 own-bits-requires : tie.Need-own-bits-requires Inv-loop μ-loop
 own-bits-requires c κs =
@@ -38,8 +37,8 @@ own-bits-requires c κs =
     let a = st .args in
     let R = now (a .profile) in
     let s = now (a .bits) in
-    let k = known R s (a .plan) (st .pre .0) in
-    (omega (arith, k .count, k .cut .bits-high), omega (arith, k .blocks-is, k .cut .some), omega (arith, k .blocks-is, k .cut .most))
+    let k = some-fields R (a .plan) (st .pre .0 .some) in
+    (k .cut .bits-high, omega (arith, k .blocks-is, k .cut .some), omega (arith, k .blocks-is, k .cut .most))
 
 has-parity-requires : tie.Need-has-parity-requires Inv-loop μ-loop
 has-parity-requires c κs =
@@ -47,28 +46,28 @@ has-parity-requires c κs =
     let a = st .args in
     let R = now (a .profile) in
     let s = now (a .bits) in
-    let k = known R s (a .plan) (st .pre .0) in
+    let k = some-fields R (a .plan) (st .pre .0 .some) in
     let l = c .before .before .before .loop in
     let own = c .before .own-bits in
-    let fits = own-fits R s (a .plan) k (l .r) (l .start) (own .result) (omega (arith, c .before .before)) (l .inv .1) (own .ensures) in
-    (st .pre .0, own-room R s (a .plan) k (l .r) (own .result) (own .ensures), fits, omega (arith, l .inv .2, st .pre .1))
+    let fits = own-fits R (a .plan) k (l .r) (l .start) (own .result) (omega (arith, c .before .before)) (l .inv .1) (own .ensures) in
+    (st .pre .0, own-room R (a .plan) k (l .r) (own .result) (own .ensures), omega (arith, fits, st .pre .0 .size), omega (arith, l .inv .2, st .pre .1))
 
 same-length : tie.Need-same-length Inv-loop μ-loop
 same-length c = search needs
 
 returns : tie.Need-returns Inv-loop μ-loop
-unfolding allHaveParity
+unfolding someWithoutParity
 returns c =
     let st = c .before .before .before .before .before .before .before .before .before .before .before in
     let a = st .args in
     let R = now (a .profile) in
     let s = now (a .bits) in
-    let k = known R s (a .plan) (st .pre .0) in
+    let k = some-fields R (a .plan) (st .pre .0 .some) in
     let l = c .before .before .before .before .before .before .before .loop in
     let own = c .before .before .before .before .before .own-bits in
     let has = c .before .before .before .has-parity in
-    let none : blockHasParity R s (l .r) ≡ false = sym (parity-is R s (a .plan) k (l .r) (l .start) (own .result) (l .inv .1) (own .ensures)) ∙ sym (has .ensures) ∙ not-true _ (c .if1 .taken) in
-    sym (all-fails (blocks R (length s)) (blockHasParity R s) (l .r) (omega (arith, c .before .before .before .before .before .before, k .blocks-is)) none)
+    let none : blockHasParity R (a .plan .bits) s (l .r) ≡ false = sym (parity-is R (a .plan) k s (l .r) (l .start) (own .result) (l .inv .1) (own .ensures)) ∙ sym (has .ensures) ∙ not-true _ (c .if1 .taken) in
+    ap not (sym (any-of (blocks R (a .plan .bits)) (λ i. not (blockHasParity R (a .plan .bits) s i)) (l .r) (omega (arith, c .before .before .before .before .before .before, k .blocks-is)) (ap not none)))
 
 add-start : tie.Need-add-start Inv-loop μ-loop
 add-start c =
@@ -76,10 +75,10 @@ add-start c =
     let a = st .args in
     let R = now (a .profile) in
     let s = now (a .bits) in
-    let k = known R s (a .plan) (st .pre .0) in
+    let k = some-fields R (a .plan) (st .pre .0 .some) in
     let l = c .before .before .before .before .before .before .before .loop in
     let own = c .before .before .before .before .before .own-bits in
-    let fits = own-fits R s (a .plan) k (l .r) (l .start) (own .result) (omega (arith, c .before .before .before .before .before .before)) (l .inv .1) (own .ensures) in
+    let fits = own-fits R (a .plan) k (l .r) (l .start) (own .result) (omega (arith, c .before .before .before .before .before .before)) (l .inv .1) (own .ensures) in
     omega (arith, fits, k .cut .bits-high)
 
 add-r : tie.Need-add-r Inv-loop μ-loop
@@ -94,29 +93,29 @@ loop-again c =
     let a = st .args in
     let R = now (a .profile) in
     let s = now (a .bits) in
-    let k = known R s (a .plan) (st .pre .0) in
+    let k = some-fields R (a .plan) (st .pre .0 .some) in
     let l = c .before .before .before .before .before .before .before .loop in
     let own = c .before .before .before .before .before .own-bits in
     let has = c .before .before .before .has-parity in
-    let here : blockHasParity R s (l .r) ≡ true = sym (parity-is R s (a .plan) k (l .r) (l .start) (own .result) (l .inv .1) (own .ensures)) ∙ sym (has .ensures) ∙ not-false _ (c .if1 .left) in
-    let turn = start-turn R (length s) (l .r) in
-    let mine : own .result ≡ ownBits (length s) (blocks R (length s)) (l .r) = own .ensures ∙ ap₂ (λ (x y : ℕ). ownBits x y (l .r)) (k .count) (k .blocks-is) in
-    (omega (arith, c .before .before .before .before .before .before), omega (arith, turn, mine, l .inv .1), omega (arith, has .kept .1 .1 .1 .1 .1 .0, l .inv .2), below-more (λ i. blockHasParity R s i ≡ true) (l .r) (l .inv .3) here)
+    let here : blockHasParity R (a .plan .bits) s (l .r) ≡ true = sym (parity-is R (a .plan) k s (l .r) (l .start) (own .result) (l .inv .1) (own .ensures)) ∙ sym (has .ensures) ∙ not-false _ (c .if1 .left) in
+    let turn = start-turn R (a .plan .bits) (l .r) in
+    let mine = own-is R (a .plan) k (l .r) (own .result) (own .ensures) in
+    (omega (arith, c .before .before .before .before .before .before), omega (arith, turn, mine, l .inv .1), omega (arith, has .kept .1 .1 .1 .1 .1 .0, l .inv .2), below-more (λ i. blockHasParity R (a .plan .bits) s i ≡ true) (l .r) (l .inv .3) here)
 
 same-length-2 : tie.Need-same-length-2 Inv-loop μ-loop
 same-length-2 c = search needs
 
 returns-2 : tie.Need-returns-2 Inv-loop μ-loop
-unfolding allHaveParity
+unfolding someWithoutParity
 returns-2 c =
     let st = c .before .before .before .before .before in
     let a = st .args in
     let R = now (a .profile) in
     let s = now (a .bits) in
-    let k = known R s (a .plan) (st .pre .0) in
+    let k = some-fields R (a .plan) (st .pre .0 .some) in
     let l = c .before .loop in
-    let all : blocks R (length s) ≡ l .r = omega (arith, k .blocks-is, l .inv, c) in
-    sym (all-of (blocks R (length s)) (blockHasParity R s) (λ i q. l .inv .3 i (omega arith)))
+    let all : blocks R (a .plan .bits) ≡ l .r = omega (arith, k .blocks-is, l .inv, c) in
+    ap not (sym (any-none (blocks R (a .plan .bits)) (λ i. not (blockHasParity R (a .plan .bits) s i)) (λ i q. ap not (l .inv .3 i (omega arith)))))
 
 pub all-have-parity-spec : {M : Type 1} → statement M
 all-have-parity-spec =

@@ -1,4 +1,4 @@
--- `coding::sending::clear` meets its contract. The loop's invariant: k zeros are written. Assumes nothing.
+-- `coding::sending::clear` meets its contract. The loop's invariant: k zeros are written.
 use mathlib.Core.Path.{_≡_, refl}
 use mathlib.Core.List.{_++_}
 use Prim.Native.Nat.{_+_, _-_, _≤_}

@@ -1,4 +1,4 @@
--- `coding::sending::send_bits` meets its contract. Assumes nothing.
+-- `coding::sending::send_bits` meets its contract.
 use mathlib.Core.Path.{sym, ap₂, _∙_}
 use Prim.Native.Nat.{ℕ, _+_, _*_}
 use native.Mathlib.Omega.{arith}
@@ -7,7 +7,7 @@ use lib.Seq.{length-take-le}
 use denote.Ref.{now}
 use borrow.Author.Needs.{needs}
 use Rattle.profile.specs.Record.{kb, m}
-use Rattle.coding.proofs.Known.{known, word-most}
+use Rattle.coding.proofs.PlanFields.{some-fields, word-most}
 use Rattle.coding.proofs.sending.send_bits.Statement.{statement}
 use Rattle.coding.proofs.sending.send_bits.Tie as tie
 
@@ -15,15 +15,15 @@ kb-requires : tie.Need-kb-requires
 kb-requires c κs =
     let st = c .before .before .before in
     let a = st .args in
-    let k = known (now (a .profile)) (now (a .bits)) (a .plan) (st .pre .0) in
-    k .taken
+    let k = some-fields (now (a .profile)) (a .plan) (st .pre .0 .some) in
+    k .accepted
 
 m-requires : tie.Need-m-requires
 m-requires c κs =
     let st = c .before .before .before .before in
     let a = st .args in
-    let k = known (now (a .profile)) (now (a .bits)) (a .plan) (st .pre .0) in
-    k .taken
+    let k = some-fields (now (a .profile)) (a .plan) (st .pre .0 .some) in
+    k .accepted
 
 add-n : tie.Need-add-n
 add-n c = search needs
@@ -32,31 +32,31 @@ mul-n : tie.Need-mul-n
 mul-n c =
     let st = c .before .before .before .before .before in
     let a = st .args in
-    let k = known (now (a .profile)) (now (a .bits)) (a .plan) (st .pre .0) in
-    let most = word-most (now (a .profile)) (now (a .bits)) (a .plan) k in
+    let k = some-fields (now (a .profile)) (a .plan) (st .pre .0 .some) in
+    let most = word-most (now (a .profile)) (a .plan) k in
     rw (c .before .kb .ensures .0, c .m .ensures .0) (omega (arith, most))
 
 array-borrow-prefix-room : tie.Need-array-borrow-prefix-room
 array-borrow-prefix-room c =
     let st = c .before .before .before .before .before in
     let a = st .args in
-    let k = known (now (a .profile)) (now (a .bits)) (a .plan) (st .pre .0) in
-    rw (c .before .kb .ensures .0, c .m .ensures .0) (word-most (now (a .profile)) (now (a .bits)) (a .plan) k)
+    let k = some-fields (now (a .profile)) (a .plan) (st .pre .0 .some) in
+    rw (c .before .kb .ensures .0, c .m .ensures .0) (word-most (now (a .profile)) (a .plan) k)
 
 slice-aggregate-send-in : tie.Need-slice-aggregate-send-in
 slice-aggregate-send-in c =
     let st = c .before .before .before .before .before .before in
     let a = st .args in
-    let k = known (now (a .profile)) (now (a .bits)) (a .plan) (st .pre .0) in
-    let most = word-most (now (a .profile)) (now (a .bits)) (a .plan) k in
+    let k = some-fields (now (a .profile)) (a .plan) (st .pre .0 .some) in
+    let most = word-most (now (a .profile)) (a .plan) k in
     sym (length-take-le {A = ℕ} _ (replicate 2592 0) (rw (c .before .before .kb .ensures .0, c .before .m .ensures .0) most))
 
 send-in-requires : tie.Need-send-in-requires
 send-in-requires c κs =
     let st = c .before .before .before .before .before .before .before in
     let a = st .args in
-    let k = known (now (a .profile)) (now (a .bits)) (a .plan) (st .pre .0) in
-    let most = word-most (now (a .profile)) (now (a .bits)) (a .plan) k in
+    let k = some-fields (now (a .profile)) (a .plan) (st .pre .0 .some) in
+    let most = word-most (now (a .profile)) (a .plan) k in
     let kb-is = c .before .before .before .kb .ensures .0 in
     let m-is = c .before .before .m .ensures .0 in
     let n = (c .before .before .before .kb .result + c .before .before .m .result) * a .plan .z in

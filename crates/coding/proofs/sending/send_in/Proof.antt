@@ -1,15 +1,15 @@
--- `coding::sending::send_in` meets its contract. Assumes nothing.
+-- `coding::sending::send_in` meets its contract.
 use mathlib.Core.Path.{_≡_, refl, sym, _∙_}
-use mathlib.Core.Bool.{true, false, true≢false}
+use mathlib.Core.Bool.{false, true≢false}
 use Prim.Native.Nat.{_-_}
 use native.Mathlib.Omega.{arith}
-use lib.ListN.{length, length-drop}
+use lib.ListN.{length-drop}
 use denote.Ref.{now}
 use borrow.Author.Tests.{not-true, not-false}
 use borrow.Author.Needs.{needs}
 use Rattle.profile.specs.Plan.{blocks}
-use Rattle.coding.specs.Joining.{blockSent, joined}
-use Rattle.coding.specs.steps.Sending.{allHaveParity, bitsSent}
+use Rattle.coding.specs.Blocks.{someWithoutParity}
+use Rattle.coding.specs.Joining.{blockSent, joined, radioBits}
 use Rattle.coding.proofs.Joining.{part-rest, padded-is}
 use Rattle.coding.proofs.sending.send_in.Statement.{statement}
 use Rattle.coding.proofs.sending.send_in.Tie as tie
@@ -24,14 +24,14 @@ returns : tie.Need-returns
 returns c =
     let st = c .before .before .before .before .before .before .before .before .before in
     let has = c .before .before .before .all-have-parity in
-    let none : allHaveParity (now (st .args .profile)) (now (st .args .bits)) ≡ false = sym (has .ensures) ∙ not-true _ (c .if1 .taken) in
-    record { done = λ e. absurd (true≢false (sym e ∙ none)); refused = λ e. (refl, refl, refl) }
+    let some = not-false (someWithoutParity (now (st .args .profile)) (st .args .plan .bits) (now (st .args .bits))) (sym (has .ensures) ∙ not-true _ (c .if1 .taken)) in
+    record { done = λ e. absurd (true≢false (sym some ∙ e)); refused = λ e. (refl, refl, refl) }
 
 send-blocks-requires : tie.Need-send-blocks-requires
 send-blocks-requires c κs =
     let st = c .before .before .before .before .before .before .before .before .before .before .before in
     let has = c .before .before .before .before .before .all-have-parity in
-    (st .pre .0, omega (arith, has .kept .1 .1 .1 .0, st .pre .1), st .pre .2, st .pre .3, sym (has .ensures) ∙ not-false _ (c .before .before .if1 .left))
+    (st .pre .0, omega (arith, has .kept .1 .1 .1 .0, st .pre .1), st .pre .2, st .pre .3, not-true _ (sym (has .ensures) ∙ not-false _ (c .before .before .if1 .left)))
 
 sub-clear : tie.Need-sub-clear
 sub-clear c = omega (arith, c .before .before .before .before .send-blocks .ensures .0, c .before .before .before .before .send-blocks .kept .1 .1 .1 .1 .1 .1 .1 .0, c .before .before .before .before .before .before .before .before .before .before .before .before .before .before .before .before .pre .3)
@@ -55,16 +55,16 @@ same-length-3 : tie.Need-same-length-3
 same-length-3 c = c .before .out2 .given .1 ∙ c .before .before .before .before .before .before .before .before .send-blocks .kept .1 .1 .1 .1 .1 .1 .1 .0
 
 returns-2 : tie.Need-returns-2
-unfolding bitsSent
+unfolding radioBits
 returns-2 c =
     let st = c .before .before .before .before .before .before .before .before .before .before .before .before .before .before .before .before .before .before .before .before in
     let a = st .args in
     let has = c .before .before .before .before .before .before .before .before .before .before .before .before .before .before .all-have-parity in
-    let all : allHaveParity (now (a .profile)) (now (a .bits)) ≡ true = sym (has .ensures) ∙ not-false _ (c .before .before .before .before .before .before .before .before .before .before .before .if1 .left) in
+    let none : someWithoutParity (now (a .profile)) (a .plan .bits) (now (a .bits)) ≡ false = not-true _ (sym (has .ensures) ∙ not-false _ (c .before .before .before .before .before .before .before .before .before .before .before .if1 .left)) in
     let sent = c .before .before .before .before .before .before .before .before .send-blocks in
-    let p = joined (blocks (now (a .profile)) (length (now (a .bits)))) (blockSent (now (a .profile)) (now (a .bits)) (a .nl) (a .qm) (a .g .0)) in
+    let p = joined (blocks (now (a .profile)) (a .plan .bits)) (blockSent (now (a .profile)) (a .plan .bits) (now (a .bits)) (a .nl) (a .qm) (a .g .0)) in
     let whole = padded-is (a .g .0) (sent .result) p (now (a .out)) (sent .last .1 .1 .1 .1 .1 .1 .1 .0) (c .before .before .clear .last .0) (sent .ensures .2) (sent .ensures .1) (sent .ensures .0) (c .before .before .clear .ensures) in
-    record { done = λ e. (refl, refl, whole); refused = λ e. absurd (true≢false (sym all ∙ e)) }
+    record { done = λ e. (refl, refl, whole); refused = λ e. absurd (true≢false (sym e ∙ none)) }
 
 pub send-in-spec : {M : Type 1} → statement M
 send-in-spec =

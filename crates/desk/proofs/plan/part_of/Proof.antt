@@ -6,35 +6,34 @@ use native.Mathlib.Nat.{add-mul}
 use native.Mathlib.Omega.{arith}
 use denote.Ref.{now}
 use borrow.Author.Needs.{needs}
-use Rattle.bits.proofs.Answers.{when-done}
 use Rattle.profile.specs.Record.{kb, m, z}
-use Rattle.profile.specs.Plan.{blockBits, blocks, ownBits, whichSize, places, filler}
-use Rattle.profile.specs.Promises.{planNumber, Planned}
+use Rattle.profile.specs.Plan.{blockBits, blocks, ownBits, sizeIndex, places, filler}
+use Rattle.profile.specs.Promises.{planNumber, planned}
 use Rattle.profile.specs.declared.Plan.{Plan}
-use Rattle.profile.proofs.Plans.{Cut, plan-passed, plan-cut}
+use Rattle.profile.proofs.Plans.{Cut, plan-passed, plan-cut, plan-number, plan-bits, plan-blocks, plan-places, plan-z}
 use Rattle.coding.specs.Blocks.{sendable}
 use Rattle.desk.proofs.plan.part_of.Statement.{statement}
 use Rattle.desk.proofs.plan.part_of.Tie as tie
 
 -- the plan, and the profile's parts as they are read
-module _ (R : List ℕ) (octets : ℕ) (p : Plan) (done : p .number ≡ 0) (plan : Planned R octets p) where
+module _ (R : List ℕ) (octets : ℕ) (p : Plan) (done : p .number ≡ 0) (plan : p ≡ planned R octets) where
   passed : planNumber R octets ≡ 0
-  passed = sym (plan .number) ∙ done
+  passed = sym (plan-number R octets p plan) ∙ done
 
   cut : Cut R (blockBits octets)
   cut = plan-cut R octets passed
 
   bits-is : p .bits ≡ blockBits octets
-  bits-is = plan .bits ∙ when-done _ _ _ passed
+  bits-is = plan-bits R octets p plan passed
 
   blocks-is : p .blocks ≡ blocks R (blockBits octets)
-  blocks-is = plan .blocks ∙ when-done _ _ _ passed
+  blocks-is = plan-blocks R octets p plan passed
 
   places-is : p .places ≡ places R (blockBits octets)
-  places-is = plan .places ∙ when-done _ _ _ passed
+  places-is = plan-places R octets p plan passed
 
-  z-is : p .z ≡ z R (whichSize R (blockBits octets))
-  z-is = plan .z ∙ when-done _ _ _ passed
+  z-is : p .z ≡ z R (sizeIndex R (blockBits octets))
+  z-is = plan-z R octets p plan passed
 
   asked : (p .bits ≤ 16408) × (0 < p .blocks) × (p .blocks ≤ 64)
   asked = (omega (arith, bits-is, cut .bits-high), omega (arith, blocks-is, cut .some), omega (arith, blocks-is, cut .most))
@@ -46,7 +45,7 @@ module _ (R : List ℕ) (octets : ℕ) (p : Plan) (done : p .number ≡ 0) (plan
     filler-fits : (own : ℕ) → p .places - own ≤ (kb' + m') * p .z
     filler-fits own =
         rw (kb-is, m-is, z-is, places-is)
-        (omega (arith, cut .product, add-mul (kb R) (m R) (z R (whichSize R (blockBits octets)))))
+        (omega (arith, cut .product, add-mul (kb R) (m R) (z R (sizeIndex R (blockBits octets)))))
 
   -- a block's own bits
   module _ (r own : ℕ) (own-is : own ≡ ownBits (p .bits) (p .blocks) r) where

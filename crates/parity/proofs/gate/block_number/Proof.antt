@@ -1,4 +1,4 @@
--- `parity::gate::block_number` meets its contract: its tests, in their order. Assumes nothing.
+-- `parity::gate::block_number` meets its contract: its tests, in their order.
 use mathlib.Core.Path.{sym, _∙_}
 use native.Mathlib.Omega.{arith}
 use borrow.Author.Needs.{needs}

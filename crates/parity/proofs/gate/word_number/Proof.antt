@@ -1,4 +1,4 @@
--- `parity::gate::word_number` meets its contract: its tests, in their order. Assumes nothing.
+-- `parity::gate::word_number` meets its contract: its tests, in their order.
 use borrow.Author.Needs.{needs}
 use Rattle.parity.proofs.Answers.{word-judged, word-8, word-12, word-0}
 use Rattle.parity.proofs.gate.word_number.Statement.{statement}

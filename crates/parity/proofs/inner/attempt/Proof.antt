@@ -1,4 +1,4 @@
--- `parity::inner::attempt` meets its contract. Assumes nothing.
+-- `parity::inner::attempt` meets its contract.
 use borrow.Author.Needs.{needs}
 use Rattle.parity.proofs.Coded.{solution-places}
 use Rattle.parity.proofs.inner.attempt.Statement.{statement}

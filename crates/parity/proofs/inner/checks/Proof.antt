@@ -1,4 +1,4 @@
--- `parity::inner::checks` meets its contract. Assumes nothing.
+-- `parity::inner::checks` meets its contract.
 use mathlib.Core.Path.{sym}
 use native.Mathlib.Nat.{mul-le-mul}
 use native.Mathlib.Omega.{arith}
@@ -15,7 +15,7 @@ mul-n c =
     omega (arith, shape .z-most, mul-le-mul (shape .m-most) (shape .z-most))
 
 add-are-even : tie.Need-add-are-even
-add-are-even c = omega (arith, c .before .before .pre .0 .wide-most)
+add-are-even c = omega (arith, c .before .before .pre .0 .columns-most)
 
 array-borrow-prefix-room : tie.Need-array-borrow-prefix-room
 array-borrow-prefix-room c =

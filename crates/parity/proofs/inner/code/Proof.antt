@@ -1,4 +1,4 @@
--- `parity::inner::code` meets its contract. Assumes nothing.
+-- `parity::inner::code` meets its contract.
 use mathlib.Core.Path.{sym}
 use native.Mathlib.Nat.{mul-le-mul}
 use native.Mathlib.Omega.{arith}

@@ -1,15 +1,15 @@
--- `parity::inner::solve` meets its contract. Assumes nothing.
+-- `parity::inner::solve` meets its contract.
 use mathlib.Core.Path.{_∙_}
 use Prim.Native.Nat.{_+_}
 use native.Mathlib.Omega.{arith}
 use borrow.Author.Needs.{needs}
-use Rattle.parity.proofs.Columns.{group-in, sums-word}
+use Rattle.parity.proofs.Columns.{group-in, sums-all, sums-word}
 use Rattle.parity.proofs.Groups.{first-same, steps-in, laid-solution}
 use Rattle.parity.proofs.inner.solve.Statement.{statement}
 use Rattle.parity.proofs.inner.solve.Tie as tie
 
 add-add-columns : tie.Need-add-add-columns
-add-add-columns c = omega (arith, c .before .before .before .pre .0 .wide-most)
+add-add-columns c = omega (arith, c .before .before .before .pre .0 .columns-most)
 
 add-columns-requires : tie.Need-add-columns-requires
 add-columns-requires c κs = search needs
@@ -30,10 +30,10 @@ lay-first-requires c κs =
     (sums .size, sums .bits, shape .m-some, shape .m-most, shape .z-most, omega (arith, room, st .pre .1))
 
 add-add-columns-2 : tie.Need-add-add-columns-2
-add-add-columns-2 c = omega (arith, c .before .before .before .before .before .before .before .before .before .before .before .before .before .pre .0 .wide-most)
+add-add-columns-2 c = omega (arith, c .before .before .before .before .before .before .before .before .before .before .before .before .before .pre .0 .columns-most)
 
 add-add-columns-3 : tie.Need-add-add-columns-3
-add-add-columns-3 c = omega (arith, c .before .before .before .before .before .before .before .before .before .before .before .before .before .pre .0 .wide-most)
+add-add-columns-3 c = omega (arith, c .before .before .before .before .before .before .before .before .before .before .before .before .before .pre .0 .columns-most)
 
 add-columns-requires-2 : tie.Need-add-columns-requires-2
 add-columns-requires-2 c κs =
@@ -44,7 +44,7 @@ add-columns-requires-2 c κs =
     (shape, omega arith, omega (arith, shape .m-some), laid .len ∙ st .pre .1, sums)
 
 add-lay-next : tie.Need-add-lay-next
-add-lay-next c = omega (arith, c .before .before .before .before .before .before .before .before .before .before .before .before .before .before .before .before .before .before .before .before .pre .0 .wide-most)
+add-lay-next c = omega (arith, c .before .before .before .before .before .before .before .before .before .before .before .before .before .before .before .before .before .before .before .before .pre .0 .columns-most)
 
 mul-lay-next : tie.Need-mul-lay-next
 mul-lay-next c =
@@ -70,7 +70,7 @@ same-length-2 c = search needs
 returns : tie.Need-returns
 returns c =
     let pre = c .before .before .before .before .before .before .before .before .before .before .before .before .before .before .before .before .before .before .before .before .before .before .before .pre in
-    laid-solution _ _ _ _ _ _ _ _ _ (pre .0 .z-some) (pre .0 .m-some) (c .before .before .before .before .before .before .before .before .before .before .before .before .before .before .before .before .before .add-columns .ensures) (c .before .before .before .before .before .before .before .add-columns2 .ensures)
+    laid-solution _ _ _ _ _ _ _ _ _ (pre .0 .z-some) (pre .0 .m-some) (c .before .before .before .before .before .before .before .before .before .before .before .before .before .before .before .before .before .add-columns .ensures) (sums-all _ _ _ _ _ (search needs) (search needs) (c .before .before .before .before .before .before .before .add-columns2 .ensures))
     (c .before .before .before .before .before .before .before .before .before .before .before .before .lay-first .ensures) (c .before .before .lay-next .ensures) (pre .1)
 
 pub solve-spec : {M : Type 1} → statement M

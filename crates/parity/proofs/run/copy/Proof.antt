@@ -1,5 +1,4 @@
 -- `parity::run::copy` meets its contract. The loop's invariant: what is left of s, written from k on, gives what the whole gives.
--- Assumes nothing.
 use mathlib.Core.Path.{_≡_, refl}
 use Prim.Native.Nat.{_-_, _≤_}
 use lib.ListN.{length, drop, length-set}

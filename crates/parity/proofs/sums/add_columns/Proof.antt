@@ -1,4 +1,4 @@
--- `parity::sums::add_columns` meets its contract. The loop's invariant: the sums hold the columns before j. Assumes nothing.
+-- `parity::sums::add_columns` meets its contract. The loop's invariant: the sums hold the columns before j.
 use mathlib.Core.Path.{_≡_, refl, sym}
 use Prim.Native.Nat.{_-_, _≤_}
 use native.Mathlib.Omega.{arith}
@@ -12,11 +12,11 @@ use Rattle.parity.proofs.sums.add_columns.Statement.{statement}
 use Rattle.parity.proofs.sums.add_columns.Tie as tie
 
 abbrev Inv-loop : tie.InvT-loop
-Inv-loop table m wide z from to word sums₀ g₀ j₀ sums g j =
-    (j ≤ to) × (length g ≡ 162) × AreBits g × Sums table m wide z word j 0 sums
+Inv-loop table m columns z from to word sums₀ g₀ j₀ sums g j =
+    (j ≤ to) × (length g ≡ 162) × AreBits g × Sums table m columns z word j 0 sums
 
 abbrev μ-loop : tie.MeasureT-loop
-μ-loop table m wide z from to word sums₀ g₀ j₀ sums g j = to - j
+μ-loop table m columns z from to word sums₀ g₀ j₀ sums g j = to - j
 
 loop-holds : tie.Need-loop-holds Inv-loop μ-loop
 loop-holds c = (c .before .before .before .pre .1, refl, bits-zeros 162, c .before .before .before .pre .4)

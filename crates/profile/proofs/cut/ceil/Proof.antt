@@ -1,6 +1,6 @@
--- `profile::cut::ceil` meets its contract. Assumes nothing.
+-- `profile::cut::ceil` meets its contract.
 use borrow.Author.Needs.{needs}
-use Rattle.profile.specs.Plan.{ceil}
+use Rattle.bits.specs.Counts.{ceil}
 use Rattle.profile.proofs.cut.ceil.Statement.{statement}
 use Rattle.profile.proofs.cut.ceil.Tie as tie
 

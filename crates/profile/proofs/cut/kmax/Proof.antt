@@ -1,4 +1,4 @@
--- `profile::cut::kmax` meets its contract. Assumes nothing.
+-- `profile::cut::kmax` meets its contract.
 use Prim.Native.Nat.{_*_, _≤_}
 use native.Mathlib.Nat.{mul-le-mul, mul-pos}
 use native.Mathlib.Omega.{arith}

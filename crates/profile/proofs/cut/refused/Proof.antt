@@ -1,6 +1,6 @@
--- `profile::cut::refused` meets its contract. Assumes nothing.
+-- `profile::cut::refused` meets its contract.
 use borrow.Author.Needs.{needs}
-use Rattle.profile.specs.steps.Cutting.{refusal}
+use Rattle.profile.specs.Promises.{refusal}
 use Rattle.profile.proofs.cut.refused.Statement.{statement}
 use Rattle.profile.proofs.cut.refused.Tie as tie
 

@@ -1,8 +1,11 @@
--- `profile::form::is_rising` meets its contract. Assumes nothing.
+-- `profile::form::is_rising` meets its contract.
+use Prim.Native.Nat.{_-_}
+use native.Mathlib.Omega.{arith}
 use denote.Ref.{now}
 use borrow.Author.Needs.{needs}
-use Rattle.profile.specs.Record.{rises}
-use Rattle.profile.proofs.Shape.{rises-later}
+use borrow.Author.Tests.{ltb-true, ltb-false, leb-true, leb-false}
+use Rattle.profile.specs.Record.{z, rises}
+use Rattle.profile.proofs.Shape.{less-test, rises-later}
 use Rattle.profile.proofs.form.is_rising.Statement.{statement}
 use Rattle.profile.proofs.form.is_rising.Tie as tie
 
@@ -22,7 +25,9 @@ z-requires-2 c κs = search needs
 returns-2 : tie.Need-returns-2
 returns-2 c =
     let a = c .before .before .before .before .args in
-    cc (rises-later (now (a .profile)) (a .i) (c .before .before .if1 .left))
+    let R = now (a .profile) in
+    rw (rises-later R (a .i) (c .before .before .if1 .left))
+    (less-test _ (z R (a .i - 1)) (z R (a .i)) (λ e. omega (arith, ltb-true, leb-true)) (λ e. omega (arith, ltb-false, leb-false)))
 
 pub is-rising-spec : {M : Type 1} → statement M
 is-rising-spec = tie.close (tie.spec returns sub-z z-requires z-requires-2 returns-2)

@@ -1,4 +1,4 @@
--- `profile::form::is_within` meets its contract. Assumes nothing.
+-- `profile::form::is_within` meets its contract.
 use borrow.Author.Tests.{le-leb, lt-leb}
 use Rattle.profile.proofs.form.is_within.Statement.{statement}
 use Rattle.profile.proofs.form.is_within.Tie as tie

@@ -1,4 +1,4 @@
--- `profile::form::ranges_right` meets its contract. Assumes nothing.
+-- `profile::form::ranges_right` meets its contract.
 use mathlib.Core.Path.{_≡_}
 use mathlib.Core.Bool.{true, false}
 use borrow.Author.Needs.{needs}

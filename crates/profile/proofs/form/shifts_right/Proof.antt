@@ -1,4 +1,4 @@
--- `profile::form::shifts_right` meets its contract. The loop's invariant: every entry passed is right. Assumes nothing.
+-- `profile::form::shifts_right` meets its contract. The loop's invariant: every entry passed is right.
 use mathlib.Core.Path.{_≡_, sym}
 use mathlib.Core.Bool.{true, false}
 use Prim.Native.Nat.{ℕ, _-_, _≤_, _<_}

@@ -1,10 +1,13 @@
--- `profile::form::size_right` meets its contract. Assumes nothing.
+-- `profile::form::size_right` meets its contract.
 use mathlib.Core.Path.{_≡_}
 use mathlib.Core.Bool.{true, false}
+use native.Mathlib.Omega.{arith}
 use denote.Ref.{now}
 use borrow.Author.Needs.{needs}
-use borrow.Author.Tests.{not-true, not-false}
-use Rattle.profile.specs.Record.{z, within, rises, sizeRight}
+use borrow.Author.Tests.{eqb-true, eqb-false, not-true, not-false}
+use Rattle.profile.specs.Record.{z, offset, within, rises, offsetDue}
+use Rattle.profile.specs.steps.Shape.{sizeRight}
+use Rattle.profile.proofs.Shape.{same-test}
 use Rattle.profile.proofs.form.size_right.Statement.{statement}
 use Rattle.profile.proofs.form.size_right.Tie as tie
 
@@ -47,7 +50,7 @@ returns-3 c =
     let R = now (a .profile) in
     let one : within 1 81 (z R (a .i)) ≡ true = cc (not-false (u .before .before .is-within .result) (u .before .if1 .left)) in
     let two : rises R (a .i) ≡ true = cc (not-false (u .is-rising .result) (c .before .before .if2 .left)) in
-    rw (one, two) (cc)
+    rw (one, two) (same-test _ (offset R (a .i)) (offsetDue R (a .i)) (λ e. omega (arith, eqb-true)) (λ e. omega (arith, eqb-false)))
 
 pub size-right-spec : {M : Type 1} → statement M
 size-right-spec =

@@ -1,4 +1,4 @@
--- `profile::form::sizes_right` meets its contract. The loop's invariant: every size passed is right. Assumes nothing.
+-- `profile::form::sizes_right` meets its contract. The loop's invariant: every size passed is right.
 use mathlib.Core.Path.{_≡_, sym}
 use mathlib.Core.Bool.{true, false}
 use Prim.Native.Nat.{ℕ, _-_, _≤_, _<_}
@@ -8,7 +8,8 @@ use borrow.Author.Count.{below-more}
 use borrow.Author.Needs.{needs}
 use borrow.Author.Tests.{not-true, not-false}
 use Rattle.bits.proofs.Ranges.{all-of, all-fails}
-use Rattle.profile.specs.Record.{t, sizeRight}
+use Rattle.profile.specs.Record.{t}
+use Rattle.profile.specs.steps.Shape.{sizeRight}
 use Rattle.profile.proofs.Shape.{header-is, pair-there}
 use Rattle.profile.proofs.form.sizes_right.Statement.{statement}
 use Rattle.profile.proofs.form.sizes_right.Tie as tie

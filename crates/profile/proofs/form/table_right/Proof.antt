@@ -1,4 +1,4 @@
--- `profile::form::table_right` meets its contract. Assumes nothing.
+-- `profile::form::table_right` meets its contract.
 use denote.Ref.{now}
 use borrow.Author.Needs.{needs}
 use Rattle.profile.proofs.Shape.{shape-is, table-long, table-test}
@@ -9,11 +9,7 @@ z-requires : tie.Need-z-requires
 z-requires c κs = shape-is (now (c .before .args .profile)) (c .before .pre .0) .pair (c .before .args .i) (c .before .pre .1)
 
 table-requires : tie.Need-table-requires
-table-requires c κs =
-    let s = shape-is (now (c .before .before .args .profile)) (c .before .before .pre .0) in
-    let i = c .before .before .args .i in
-    let l = c .before .before .pre .1 in
-    (s .right, s .pair i l, s .inside i l)
+table-requires c κs = search needs
 
 shifts-right-requires : tie.Need-shifts-right-requires
 shifts-right-requires c κs = search needs
@@ -24,7 +20,7 @@ returns c =
     let R = now (c .before .before .before .before .args .profile) in
     let long = table-long R (shape-is R (c .before .before .before .before .pre .0)) (a .i) (c .before .before .before .before .pre .1) in
     let u = c .before in
-    cc (table-test R (a .i) (u .before .z .result) (now (u .table .result)) (u .table .ensures) (u .before .z .ensures .0) long)
+    cc (table-test R (a .i) (u .before .z .result) (now (u .table .result)) (u .table .ensures .0) (u .before .z .ensures .0) long)
 
 pub table-right-spec : {M : Type 1} → statement M
 table-right-spec = tie.close (tie.spec z-requires table-requires shifts-right-requires returns)

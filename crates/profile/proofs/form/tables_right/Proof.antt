@@ -1,4 +1,4 @@
--- `profile::form::tables_right` meets its contract. The loop's invariant: the entries of every table passed are right. Assumes nothing.
+-- `profile::form::tables_right` meets its contract. The loop's invariant: the entries of every table passed are right.
 use mathlib.Core.Path.{_≡_, sym}
 use mathlib.Core.Bool.{true, false}
 use Prim.Native.Nat.{ℕ, _-_, _≤_, _<_}

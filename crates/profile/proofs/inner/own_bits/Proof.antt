@@ -1,4 +1,4 @@
--- `profile::inner::own_bits` meets its contract. Assumes nothing.
+-- `profile::inner::own_bits` meets its contract.
 use Prim.Native.Nat.{_%_}
 use borrow.Author.Needs.{needs}
 use borrow.Author.Tests.{lt-ltb, le-ltb}

@@ -1,4 +1,4 @@
--- `profile::inner::plan_accepted` meets its contract. Assumes nothing.
+-- `profile::inner::plan_accepted` meets its contract.
 use mathlib.Core.Path.{_≡_}
 use mathlib.Core.Bool.{true, false}
 use Prim.Native.Nat.{_≤_, _<_}
@@ -9,7 +9,7 @@ use borrow.Author.Tests.{not-true, not-false}
 use Rattle.profile.specs.Record.{within}
 use Rattle.profile.specs.Plan.{blockBits, blocks}
 use Rattle.profile.proofs.Shape.{within-is}
-use Rattle.profile.proofs.Answers.{plan-seven, plan-nine, plan-done, refused-planned, cutting-planned}
+use Rattle.profile.proofs.Answers.{plan-seven, plan-nine, plan-zero, refused-planned, cutting-planned}
 use Rattle.profile.proofs.inner.plan_accepted.Statement.{statement}
 use Rattle.profile.proofs.inner.plan_accepted.Tie as tie
 
@@ -66,9 +66,9 @@ returns-2 c =
     let many : 64 < blocks R (blockBits octets) = omega (arith, counted (c .before .before), c .before .if2 .taken) in
     rw (c .refused2 .ensures) (refused-planned R octets 9 (plan-nine R octets (s .pre) (right u) many) (λ q. omega arith))
 
-planned-requires : tie.Need-planned-requires
+cutting-requires : tie.Need-cutting-requires
 unfolding blockBits
-planned-requires c κs =
+cutting-requires c κs =
     let few = octets-few (c .before .before .before) in
     (c .before .before .before .before .before .before .pre, search needs, search needs, search needs, counted (c .before), search needs)
 
@@ -80,7 +80,7 @@ returns-3 c =
     let R = now (s .args .profile) in
     let octets = s .args .octets in
     let few : blocks R (blockBits octets) ≤ 64 = omega (arith, counted (c .before .before), c .before .if2 .left) in
-    rw (c .planned .ensures) (cutting-planned R octets (plan-done R octets (s .pre) (right u) few))
+    rw (c .cutting .ensures) (cutting-planned R octets (plan-zero R octets (s .pre) (right u) few))
 
 pub plan-accepted-spec : {M : Type 1} → statement M
 plan-accepted-spec =
@@ -95,5 +95,5 @@ plan-accepted-spec =
     ceil-requires
     refused-requires-2
     returns-2
-    planned-requires
+    cutting-requires
     returns-3)

@@ -1,4 +1,4 @@
--- `profile::inner::t` meets its contract. Assumes nothing.
+-- `profile::inner::t` meets its contract.
 use native.Mathlib.Omega.{arith}
 use denote.Ref.{now}
 use borrow.Author.Needs.{needs}

@@ -1,4 +1,4 @@
--- `profile::inner::z` meets its contract. Assumes nothing.
+-- `profile::inner::z` meets its contract.
 use denote.Ref.{now}
 use borrow.Author.Needs.{needs}
 use Rattle.profile.proofs.Accepted.{accepted-shape, accepted}

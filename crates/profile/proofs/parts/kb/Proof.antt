@@ -1,4 +1,4 @@
--- `profile::parts::kb` meets its contract. Assumes nothing.
+-- `profile::parts::kb` meets its contract.
 use borrow.Author.Needs.{needs}
 use Rattle.profile.specs.Record.{kb}
 use Rattle.profile.proofs.parts.kb.Statement.{statement}

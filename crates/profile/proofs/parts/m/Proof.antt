@@ -1,4 +1,4 @@
--- `profile::parts::m` meets its contract. Assumes nothing.
+-- `profile::parts::m` meets its contract.
 use borrow.Author.Needs.{needs}
 use Rattle.profile.specs.Record.{m}
 use Rattle.profile.proofs.parts.m.Statement.{statement}

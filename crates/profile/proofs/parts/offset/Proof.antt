@@ -1,4 +1,4 @@
--- `profile::parts::offset` meets its contract. Assumes nothing.
+-- `profile::parts::offset` meets its contract.
 use borrow.Author.Needs.{needs}
 use Rattle.profile.specs.Record.{offset}
 use Rattle.profile.proofs.parts.offset.Statement.{statement}

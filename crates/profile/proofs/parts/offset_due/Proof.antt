@@ -1,4 +1,4 @@
--- `profile::parts::offset_due` meets its contract. Assumes nothing.
+-- `profile::parts::offset_due` meets its contract.
 use Prim.Native.Nat.{_*_, _≤_}
 use native.Mathlib.Nat.{mul-le-mul}
 use native.Mathlib.Omega.{arith}

@@ -1,4 +1,4 @@
--- `profile::parts::t` meets its contract. Assumes nothing.
+-- `profile::parts::t` meets its contract.
 use borrow.Author.Needs.{needs}
 use Rattle.profile.specs.Record.{t}
 use Rattle.profile.proofs.parts.t.Statement.{statement}

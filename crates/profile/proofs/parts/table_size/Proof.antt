@@ -1,4 +1,4 @@
--- `profile::parts::table_size` meets its contract. Assumes nothing.
+-- `profile::parts::table_size` meets its contract.
 use Prim.Native.Nat.{_+_, _*_, _≤_}
 use native.Mathlib.Omega.{arith}
 use denote.Ref.{now}

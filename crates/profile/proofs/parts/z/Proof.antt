@@ -1,4 +1,4 @@
--- `profile::parts::z` meets its contract. Assumes nothing.
+-- `profile::parts::z` meets its contract.
 use borrow.Author.Needs.{needs}
 use Rattle.profile.specs.Record.{z}
 use Rattle.profile.proofs.parts.z.Statement.{statement}

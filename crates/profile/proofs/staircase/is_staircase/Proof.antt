@@ -1,12 +1,13 @@
--- `profile::staircase::is_staircase` meets its contract. Assumes nothing.
+-- `profile::staircase::is_staircase` meets its contract.
 use Prim.Native.Nat.{_+_}
 use native.Mathlib.Omega.{arith}
 use lib.ListN.{getD}
 use denote.Ref.{now}
 use borrow.Author.Needs.{needs}
 use borrow.Author.Tests.{eq-eqb, ne-eqb}
-use Rattle.profile.specs.Staircase.{staircase}
-use Rattle.profile.proofs.Stairs.{entry-top, row-inside}
+use Rattle.profile.specs.Record.{empty}
+use Rattle.profile.specs.steps.Walk.{walked}
+use Rattle.profile.proofs.Walk.{walk-is, entry-top, row-inside}
 use Rattle.profile.proofs.staircase.is_staircase.Statement.{statement}
 use Rattle.profile.proofs.staircase.is_staircase.Tie as tie
 
@@ -17,21 +18,21 @@ shared-slice-read-if1 c =
     omega (arith, p .size, row-inside (a .kb) (a .m) 0 (a .kb) (omega (arith, p .m-low)) (omega (arith, p .m-low)))
 
 returns : tie.Need-returns
-unfolding staircase
+unfolding walked
 returns c =
     let a = c .before .before .before .args in
     let T = now (a .table) in
-    rw (entry-top T (a .kb + a .m) (a .kb), eq-eqb (getD T (a .kb) 0) 255 (c .if1 .taken))
+    rw (← walk-is T (a .kb) (a .m), entry-top T (a .kb + a .m) (a .kb), eq-eqb (getD T (a .kb) 0) empty (c .if1 .taken))
 
 some-stairs-requires : tie.Need-some-stairs-requires
 some-stairs-requires c κs = search needs
 
 returns-2 : tie.Need-returns-2
-unfolding staircase
+unfolding walked
 returns-2 c =
     let a = c .before .before .before .before .args in
     let T = now (a .table) in
-    rw (entry-top T (a .kb + a .m) (a .kb), ne-eqb (getD T (a .kb) 0) 255 (c .before .if1 .left)) (c .some-stairs .ensures)
+    rw (← walk-is T (a .kb) (a .m), entry-top T (a .kb + a .m) (a .kb), ne-eqb (getD T (a .kb) 0) empty (c .before .if1 .left)) (c .some-stairs .ensures)
 
 pub is-staircase-spec : {M : Type 1} → statement M
 is-staircase-spec =

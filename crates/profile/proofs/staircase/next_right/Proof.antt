@@ -1,4 +1,4 @@
--- `profile::staircase::next_right` meets its contract. The loop's invariant: every column passed holds what it is due. Assumes nothing.
+-- `profile::staircase::next_right` meets its contract. The loop's invariant: every column passed holds what it is due.
 use mathlib.Core.Path.{_≡_, sym}
 use mathlib.Core.Bool.{true, false}
 use Prim.Native.Nat.{ℕ, suc, _+_, _-_, _*_, _≤_, _<_}
@@ -9,9 +9,8 @@ use borrow.Author.Count.{below-more}
 use borrow.Author.Needs.{needs}
 use borrow.Author.Tests.{eq-eqb, ne-eqb}
 use Rattle.bits.proofs.Ranges.{all-of, all-fails}
-use Rattle.profile.specs.Record.{kb, m, table, entry}
-use Rattle.profile.specs.steps.Shape.{nextRight}
-use Rattle.profile.proofs.Stairs.{row-inside, next-at}
+use Rattle.profile.specs.steps.Walk.{nextRight}
+use Rattle.profile.proofs.Walk.{row-inside, next-at}
 use Rattle.profile.proofs.staircase.next_right.Statement.{statement}
 use Rattle.profile.proofs.staircase.next_right.Tie as tie
 
@@ -55,7 +54,7 @@ add-next-due : tie.Need-add-next-due Inv-loop μ-loop
 add-next-due c = search needs
 
 next-due-requires : tie.Need-next-due-requires Inv-loop μ-loop
-next-due-requires c κs = omega (arith, c .before .before .before .before .pre)
+next-due-requires c κs = (omega (arith, c .before .before .before .before .pre), omega arith)
 
 returns : tie.Need-returns Inv-loop μ-loop
 returns c =

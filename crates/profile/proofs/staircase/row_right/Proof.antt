@@ -1,4 +1,4 @@
--- `profile::staircase::row_right` meets its contract. Assumes nothing.
+-- `profile::staircase::row_right` meets its contract.
 use mathlib.Core.Path.{_≡_}
 use mathlib.Core.Bool.{true, false}
 use Prim.Native.Nat.{_+_, _*_, _<_}
@@ -8,8 +8,8 @@ use lib.ListN.{length, getD}
 use denote.Ref.{now}
 use borrow.Author.Needs.{needs}
 use borrow.Author.Tests.{eq-eqb, ne-eqb}
-use Rattle.profile.specs.Staircase.{firstDue}
-use Rattle.profile.proofs.Stairs.{row-inside, row-at}
+use Rattle.profile.specs.steps.Walk.{firstDue}
+use Rattle.profile.proofs.Walk.{row-inside, row-at}
 use Rattle.profile.proofs.staircase.row_right.Statement.{statement}
 use Rattle.profile.proofs.staircase.row_right.Tie as tie
 

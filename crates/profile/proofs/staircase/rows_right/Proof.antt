@@ -1,4 +1,4 @@
--- `profile::staircase::rows_right` meets its contract. The loop's invariant: every row passed is right. Assumes nothing.
+-- `profile::staircase::rows_right` meets its contract. The loop's invariant: every row passed is right.
 use mathlib.Core.Path.{_≡_, sym}
 use mathlib.Core.Bool.{true, false}
 use Prim.Native.Nat.{ℕ, _-_, _≤_, _<_}
@@ -8,8 +8,7 @@ use borrow.Author.Count.{below-more}
 use borrow.Author.Needs.{needs}
 use borrow.Author.Tests.{not-true, not-false}
 use Rattle.bits.proofs.Ranges.{all-of, all-fails}
-use Rattle.profile.specs.Record.{kb, m, table}
-use Rattle.profile.specs.Staircase.{rowRight}
+use Rattle.profile.specs.steps.Walk.{rowRight}
 use Rattle.profile.proofs.staircase.rows_right.Statement.{statement}
 use Rattle.profile.proofs.staircase.rows_right.Tie as tie
 

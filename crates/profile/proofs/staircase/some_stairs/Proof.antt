@@ -1,4 +1,4 @@
--- `profile::staircase::some_stairs` meets its contract. The loop's invariant: no row passed is the middle row of a staircase. Assumes nothing.
+-- `profile::staircase::some_stairs` meets its contract. The loop's invariant: no row passed is the middle row of a staircase.
 use mathlib.Core.Path.{_≡_, sym}
 use mathlib.Core.Bool.{true, false}
 use Prim.Native.Nat.{ℕ, _-_, _≤_, _<_}
@@ -7,8 +7,7 @@ use denote.Ref.{now}
 use borrow.Author.Count.{below-more}
 use borrow.Author.Needs.{needs}
 use Rattle.bits.proofs.Ranges.{any-of, any-none}
-use Rattle.profile.specs.Record.{kb, m, table}
-use Rattle.profile.specs.Staircase.{stairsAt}
+use Rattle.profile.specs.steps.Walk.{stairsAt}
 use Rattle.profile.proofs.staircase.some_stairs.Statement.{statement}
 use Rattle.profile.proofs.staircase.some_stairs.Tie as tie
 

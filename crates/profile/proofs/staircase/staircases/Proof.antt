@@ -1,4 +1,4 @@
--- `profile::staircase::staircases` meets its contract. The loop's invariant: every table passed is a staircase. Assumes nothing.
+-- `profile::staircase::staircases` meets its contract. The loop's invariant: every table passed is a staircase.
 use mathlib.Core.Path.{_≡_, sym}
 use mathlib.Core.Bool.{true, false}
 use Prim.Native.Nat.{ℕ, _-_, _≤_, _<_}
@@ -10,7 +10,7 @@ use borrow.Author.Tests.{not-true, not-false}
 use Rattle.bits.proofs.Ranges.{all-of, all-fails}
 use Rattle.profile.specs.Record.{kb, m, t, table}
 use Rattle.profile.specs.Staircase.{staircase, staircases}
-use Rattle.profile.proofs.Shape.{shape-is, table-sized}
+use Rattle.profile.proofs.Shape.{shape-is}
 use Rattle.profile.proofs.staircase.staircases.Statement.{statement}
 use Rattle.profile.proofs.staircase.staircases.Tie as tie
 
@@ -33,18 +33,12 @@ loop-holds : tie.Need-loop-holds Inv-loop μ-loop
 loop-holds c = (search needs, λ k l. absurd (omega arith))
 
 table-requires : tie.Need-table-requires Inv-loop μ-loop
-table-requires c κs =
-    let s = shape-is (now (c .before .before .before .before .before .before .args .profile)) (c .before .before .before .before .before .before .pre) in
-    let i = c .before .loop .i in
-    let inside : i < t (now (c .before .before .before .before .before .before .args .profile)) = omega arith in
-    (s .right, s .pair i inside, s .inside i inside)
+table-requires c κs = search needs
 
 is-staircase-requires : tie.Need-is-staircase-requires Inv-loop μ-loop
 is-staircase-requires c κs =
-    let R = now (c .before .before .before .before .before .before .before .args .profile) in
     let u = c .before .before .before .before in
-    let sized = table-sized R (shape-is R (u .before .before .before .pre)) (c .before .before .loop .i) (search needs) in
-    rw (c .table .ensures, u .before .kb .ensures .0, u .m .ensures .0) sized
+    rw (u .before .kb .ensures .0, u .m .ensures .0) (c .table .ensures .1)
 
 returns : tie.Need-returns Inv-loop μ-loop
 unfolding staircases

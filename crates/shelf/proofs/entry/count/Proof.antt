@@ -1,4 +1,4 @@
--- `shelf::entry::count` meets its contract. Assumes nothing.
+-- `shelf::entry::count` meets its contract.
 use borrow.Author.Needs.{needs}
 use Rattle.shelf.specs.Shelf.{count}
 use Rattle.shelf.proofs.entry.count.Statement.{statement}

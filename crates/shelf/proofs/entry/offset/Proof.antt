@@ -1,4 +1,4 @@
--- `shelf::entry::offset` meets its contract. Assumes nothing.
+-- `shelf::entry::offset` meets its contract.
 use borrow.Author.Needs.{needs}
 use Rattle.shelf.specs.Shelf.{offset}
 use Rattle.shelf.proofs.entry.offset.Statement.{statement}

@@ -1,4 +1,4 @@
--- `shelf::entry::profile` meets its contract. Assumes nothing.
+-- `shelf::entry::profile` meets its contract.
 use borrow.Author.Needs.{needs}
 use Rattle.shelf.specs.Shelf.{profile}
 use Rattle.shelf.proofs.entry.profile.Statement.{statement}

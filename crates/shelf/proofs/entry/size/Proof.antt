@@ -1,4 +1,4 @@
--- `shelf::entry::size` meets its contract. Assumes nothing.
+-- `shelf::entry::size` meets its contract.
 use borrow.Author.Needs.{needs}
 use Rattle.shelf.specs.Shelf.{size}
 use Rattle.shelf.proofs.entry.size.Statement.{statement}

@@ -1,4 +1,4 @@
--- `shelf::entry::tenant` meets its contract. Assumes nothing.
+-- `shelf::entry::tenant` meets its contract.
 use borrow.Author.Needs.{needs}
 use Rattle.shelf.specs.Shelf.{tenant}
 use Rattle.shelf.proofs.entry.tenant.Statement.{statement}

@@ -1,4 +1,4 @@
--- `shelf::find::choose` meets its contract. Assumes nothing.
+-- `shelf::find::choose` meets its contract.
 use mathlib.Core.Path.{sym, subst}
 use mathlib.Core.Bool.{true, false}
 use Prim.Native.Nat.{_≤_, _<_}
@@ -20,12 +20,12 @@ sizes c =
 entry-of-requires : tie.Need-entry-of-requires
 entry-of-requires c κs =
     let z = sizes c in
-    (omega (arith, z .0 .long, z .1 .long), omega (arith, z .0 .room, z .1 .room))
+    (omega (arith, z .0 .room, z .1 .room), omega (arith, z .0 .room, z .1 .room))
 
 count-requires : tie.Need-count-requires
 count-requires c κs =
     let z = sizes (c .before) in
-    omega (arith, z .0 .long, z .1 .long)
+    omega (arith, z .0 .room, z .1 .room)
 
 found-at-requires : tie.Need-found-at-requires
 found-at-requires c κs =
@@ -44,12 +44,12 @@ returns c =
 entry-of-requires-2 : tie.Need-entry-of-requires-2
 entry-of-requires-2 c κs =
     let z = sizes (c .before .before .before) in
-    (omega (arith, z .0 .long, z .1 .long), omega (arith, z .0 .room, z .1 .room))
+    (omega (arith, z .0 .room, z .1 .room), omega (arith, z .0 .room, z .1 .room))
 
 count-requires-2 : tie.Need-count-requires-2
 count-requires-2 c κs =
     let z = sizes (c .before .before .before .before) in
-    omega (arith, z .0 .long, z .1 .long)
+    omega (arith, z .0 .room, z .1 .room)
 
 found-at-requires-2 : tie.Need-found-at-requires-2
 found-at-requires-2 c κs =

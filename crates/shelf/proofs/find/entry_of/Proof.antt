@@ -1,4 +1,4 @@
--- `shelf::find::entry_of` meets its contract. The loop's invariant: no entry passed is the one that is asked for. Assumes nothing.
+-- `shelf::find::entry_of` meets its contract. The loop's invariant: no entry passed is the one that is asked for.
 use mathlib.Core.Path.{_≡_, sym}
 use mathlib.Core.Bool.{true, false}
 use Prim.Native.Nat.{ℕ, _-_, _≤_, _<_}

@@ -1,4 +1,4 @@
--- `shelf::find::found_at` meets its contract. Assumes nothing.
+-- `shelf::find::found_at` meets its contract.
 use borrow.Author.Needs.{needs}
 use Rattle.shelf.specs.steps.Finding.{entryFound}
 use Rattle.shelf.proofs.find.found_at.Statement.{statement}

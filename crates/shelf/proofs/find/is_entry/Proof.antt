@@ -1,4 +1,4 @@
--- `shelf::find::is_entry` meets its contract. Assumes nothing.
+-- `shelf::find::is_entry` meets its contract.
 use mathlib.Core.Path.{_≡_}
 use native.Mathlib.Omega.{arith}
 use denote.Ref.{now}

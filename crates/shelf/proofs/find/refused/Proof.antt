@@ -1,4 +1,4 @@
--- `shelf::find::refused` meets its contract. Assumes nothing.
+-- `shelf::find::refused` meets its contract.
 use borrow.Author.Needs.{needs}
 use Rattle.shelf.specs.steps.Finding.{refusal}
 use Rattle.shelf.proofs.find.refused.Statement.{statement}

@@ -1,4 +1,4 @@
--- `shelf::form::ends_right` meets its contract. Assumes nothing.
+-- `shelf::form::ends_right` meets its contract.
 use native.Mathlib.Omega.{arith}
 use denote.Ref.{now}
 use Rattle.shelf.specs.Shelf.{endsRight}
@@ -7,7 +7,7 @@ use Rattle.shelf.proofs.form.ends_right.Statement.{statement}
 use Rattle.shelf.proofs.form.ends_right.Tie as tie
 
 count-requires : tie.Need-count-requires
-count-requires c κs = omega (arith, sizes-are (now (c .before .args .shelf)) (c .before .pre) .long)
+count-requires c κs = omega (arith, sizes-are (now (c .before .args .shelf)) (c .before .pre) .room)
 
 offset-due-requires : tie.Need-offset-due-requires
 offset-due-requires c κs =

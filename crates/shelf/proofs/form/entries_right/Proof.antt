@@ -1,4 +1,4 @@
--- `shelf::form::entries_right` meets its contract. The loop's invariant: every entry passed is right. Assumes nothing.
+-- `shelf::form::entries_right` meets its contract. The loop's invariant: every entry passed is right.
 use mathlib.Core.Path.{_≡_, sym}
 use mathlib.Core.Bool.{true, false}
 use Prim.Native.Nat.{ℕ, _-_, _≤_, _<_}
@@ -8,7 +8,8 @@ use borrow.Author.Count.{below-more}
 use borrow.Author.Needs.{needs}
 use borrow.Author.Tests.{not-true, not-false}
 use Rattle.bits.proofs.Ranges.{all-of, all-fails}
-use Rattle.shelf.specs.Shelf.{count, entryRight}
+use Rattle.shelf.specs.Shelf.{count}
+use Rattle.shelf.specs.steps.Walking.{entryRight}
 use Rattle.shelf.proofs.WellFormed.{sizes-are}
 use Rattle.shelf.proofs.form.entries_right.Statement.{statement}
 use Rattle.shelf.proofs.form.entries_right.Tie as tie
@@ -20,7 +21,7 @@ abbrev μ-loop : tie.MeasureT-loop
 μ-loop private shelf count k₀ k = count - k
 
 count-requires : tie.Need-count-requires Inv-loop μ-loop
-count-requires c κs = omega (arith, sizes-are (now (c .before .args .shelf)) (c .before .pre) .long)
+count-requires c κs = omega (arith, sizes-are (now (c .before .args .shelf)) (c .before .pre) .room)
 
 loop-holds : tie.Need-loop-holds Inv-loop μ-loop
 loop-holds c = (search needs, λ j l. absurd (omega arith))

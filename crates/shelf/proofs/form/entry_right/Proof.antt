@@ -1,11 +1,12 @@
--- `shelf::form::entry_right` meets its contract. Assumes nothing.
+-- `shelf::form::entry_right` meets its contract.
 use mathlib.Core.Path.{_≡_, ap₂}
 use mathlib.Core.Bool.{true, false}
 use lib.Dec.{eqb}
 use denote.Ref.{now}
 use borrow.Author.Needs.{needs}
 use borrow.Author.Tests.{not-true, not-false}
-use Rattle.shelf.specs.Shelf.{tenant, tenantRight, rises, entryRight}
+use Rattle.shelf.specs.Shelf.{tenant, rises, chained, tenantRight}
+use Rattle.shelf.specs.steps.Walking.{entryRight}
 use Rattle.shelf.proofs.form.entry_right.Statement.{statement}
 use Rattle.shelf.proofs.form.entry_right.Tie as tie
 
@@ -41,7 +42,7 @@ offset-due-requires : tie.Need-offset-due-requires
 offset-due-requires c κs = search needs
 
 returns-3 : tie.Need-returns-3
-unfolding entryRight
+unfolding entryRight chained
 returns-3 c =
     let v = c .before .before in
     let u = v .before .before in

@@ -1,4 +1,4 @@
--- `shelf::form::is_below` meets its contract. Assumes nothing.
+-- `shelf::form::is_below` meets its contract.
 use borrow.Author.Tests.{lt-ltb, le-ltb, eq-eqb, ne-eqb}
 use Rattle.shelf.proofs.form.is_below.Statement.{statement}
 use Rattle.shelf.proofs.form.is_below.Tie as tie

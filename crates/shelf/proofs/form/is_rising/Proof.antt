@@ -1,4 +1,4 @@
--- `shelf::form::is_rising` meets its contract. Assumes nothing.
+-- `shelf::form::is_rising` meets its contract.
 use denote.Ref.{now}
 use borrow.Author.Needs.{needs}
 use Rattle.shelf.specs.Shelf.{rises}

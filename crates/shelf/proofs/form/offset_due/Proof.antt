@@ -1,4 +1,4 @@
--- `shelf::form::offset_due` meets its contract. Assumes nothing.
+-- `shelf::form::offset_due` meets its contract.
 use denote.Ref.{now}
 use borrow.Author.Needs.{needs}
 use Rattle.shelf.specs.Shelf.{offsetDue}

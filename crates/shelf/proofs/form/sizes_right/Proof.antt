@@ -1,7 +1,7 @@
--- `shelf::form::sizes_right` meets its contract. Assumes nothing.
+-- `shelf::form::sizes_right` meets its contract.
 use borrow.Author.Needs.{needs}
 use borrow.Author.Tests.{le-leb, lt-leb}
-use Rattle.shelf.specs.Shelf.{sizesRight}
+use Rattle.shelf.specs.steps.Walking.{sizesRight}
 use Rattle.shelf.proofs.form.sizes_right.Statement.{statement}
 use Rattle.shelf.proofs.form.sizes_right.Tie as tie
 

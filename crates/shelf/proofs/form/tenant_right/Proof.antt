@@ -1,4 +1,4 @@
--- `shelf::form::tenant_right` meets its contract. Assumes nothing.
+-- `shelf::form::tenant_right` meets its contract.
 use Rattle.shelf.specs.Shelf.{tenantRight}
 use Rattle.shelf.proofs.form.tenant_right.Statement.{statement}
 use Rattle.shelf.proofs.form.tenant_right.Tie as tie

@@ -1,11 +1,13 @@
--- `shelf::form::well_formed` meets its contract. Assumes nothing.
+-- `shelf::form::well_formed` meets its contract.
 use mathlib.Core.Path.{_≡_}
 use mathlib.Core.Bool.{true, false}
 use denote.Ref.{now}
 use borrow.Author.Needs.{needs}
 use borrow.Author.Tests.{not-true, not-false}
-use Rattle.bits.specs.Ranges.{allTo}
-use Rattle.shelf.specs.Shelf.{count, sizesRight, entryRight, wellFormed}
+use Rattle.bits.specs.Ranges.{allBelow}
+use Rattle.shelf.specs.Shelf.{count}
+use Rattle.shelf.specs.steps.Walking.{sizesRight, entryRight, walkRight}
+use Rattle.shelf.proofs.WellFormed.{walk-is}
 use Rattle.shelf.proofs.form.well_formed.Statement.{statement}
 use Rattle.shelf.proofs.form.well_formed.Tie as tie
 
@@ -13,24 +15,25 @@ sizes-right-requires : tie.Need-sizes-right-requires
 sizes-right-requires c κs = search needs
 
 returns : tie.Need-returns
-unfolding wellFormed
+unfolding walkRight
 returns c =
-    let S = now (c .before .before .before .args .shelf) in
+    let a = c .before .before .before .args in
+    let S = now (a .shelf) in
     let one : sizesRight S ≡ false = cc (not-true (c .before .sizes-right .result) (c .if1 .taken)) in
-    rw one
+    rw (← walk-is S (a .private), one)
 
 entries-right-requires : tie.Need-entries-right-requires
 entries-right-requires c κs = cc (not-false (c .before .sizes-right .result) (c .if1 .left))
 
 returns-2 : tie.Need-returns-2
-unfolding wellFormed
+unfolding walkRight
 returns-2 c =
     let u = c .before .before in
     let a = u .before .before .before .args in
     let S = now (a .shelf) in
     let one : sizesRight S ≡ true = cc (not-false (u .before .sizes-right .result) (u .if1 .left)) in
-    let two : allTo (count S) (entryRight (a .private) S) ≡ false = cc (not-true (c .before .entries-right .result) (c .if2 .taken)) in
-    rw (one, two)
+    let two : allBelow (count S) (entryRight (a .private) S) ≡ false = cc (not-true (c .before .entries-right .result) (c .if2 .taken)) in
+    rw (← walk-is S (a .private), one, two)
 
 ends-right-requires : tie.Need-ends-right-requires
 ends-right-requires c κs =
@@ -38,15 +41,15 @@ ends-right-requires c κs =
     cc (not-false (u .before .sizes-right .result) (u .if1 .left))
 
 returns-3 : tie.Need-returns-3
-unfolding wellFormed
+unfolding walkRight
 returns-3 c =
     let v = c .before in
     let u = v .before .before in
     let a = u .before .before .before .args in
     let S = now (a .shelf) in
     let one : sizesRight S ≡ true = cc (not-false (u .before .sizes-right .result) (u .if1 .left)) in
-    let two : allTo (count S) (entryRight (a .private) S) ≡ true = cc (not-false (v .before .entries-right .result) (v .if2 .left)) in
-    rw (one, two) (cc)
+    let two : allBelow (count S) (entryRight (a .private) S) ≡ true = cc (not-false (v .before .entries-right .result) (v .if2 .left)) in
+    rw (← walk-is S (a .private), one, two) (cc)
 
 pub well-formed-spec : {M : Type 1} → statement M
 well-formed-spec =

@@ -48,12 +48,6 @@ same-length-2 c = search needs
 returns-2 : tie.Need-returns-2 Inv-loop μ-loop
 returns-2 c = search needs
 
-mul-store : tie.Need-mul-store Inv-loop μ-loop
-mul-store c = search needs
-
-add-store : tie.Need-add-store Inv-loop μ-loop
-add-store c = search needs
-
 slice-write-store : tie.Need-slice-write-store Inv-loop μ-loop
 slice-write-store c = search needs
 
@@ -90,8 +84,6 @@ pairs-spec =
     returns
     same-length-2
     returns-2
-    mul-store
-    add-store
     slice-write-store
     add-i
     loop-less

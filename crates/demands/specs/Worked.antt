@@ -1,0 +1,67 @@
+-- The cases marked P of document 01, "Small profile and worked numbers", and the one after P10, in one table: what the definitions compute, and what is due.
+use mathlib.Core.Bool.{cond}
+use mathlib.Core.List.{List, [], _∷_, _++_}
+use Prim.Native.Nat.{ℕ}
+use Rattle.bits.specs.Bits.{unpacked}
+use Rattle.checksum.specs.Crc.{checksum, gen24A, gen16, gen8}
+use Rattle.profile.specs.Record.{kb, m, z, table}
+use Rattle.profile.specs.Plan.{blockBits, blocks}
+use Rattle.parity.specs.Coded.{hasParity, coded}
+use Rattle.coding.specs.Allocation.{share}
+use Rattle.coding.specs.Transport.{transport}
+use Rattle.coding.specs.Joining.{radioBits}
+
+-- "The toy record has kb 1, m 3, one z of 2; in hex, 22 octets"
+unfoldable pub toy : List ℕ
+toy =
+    0x00 ∷ 0x01 ∷ 0x00 ∷ 0x03 ∷ 0x00 ∷ 0x01 ∷ 0x00 ∷ 0x02 ∷ 0x00 ∷ 0x0A
+    ∷ 0x00 ∷ 0x01 ∷ 0x00 ∷ 0xFF ∷ 0x01 ∷ 0x00 ∷ 0x00 ∷ 0x00 ∷ 0xFF ∷ 0x01 ∷ 0xFF ∷ 0x00 ∷ []
+
+-- P10: "The bits packed into octets, as the sample program prints them in one line"
+unfoldable pub p10Octets : List ℕ
+p10Octets =
+    0x00 ∷ 0x00 ∷ 0x00 ∷ 0x7B ∷ 0xB7 ∷ 0x00 ∷ 0x7B ∷ 0xB7 ∷ 0x7B ∷ 0x00 ∷ 0xCC ∷ 0x00 ∷ 0xCC ∷ 0xCC ∷ 0xB7 ∷ 0xCC ∷ []
+
+-- a toy code word: the places with the parity bits that the toy record gives them, or nothing where it gives none
+unfoldable pub toyWord : List ℕ → List ℕ
+toyWord places = cond (hasParity (table toy 0) (kb toy) (m toy) (z toy 0) places) (coded (table toy 0) (kb toy) (m toy) (z toy 0) places) []
+
+-- octet 01 with the toy, N_L 1 and Q_m 2: B, C, E and the bits
+unfoldable pub toySent : ℕ → List ℕ
+toySent g = blockBits 1 ∷ blocks toy (blockBits 1) ∷ share 1 2 g (blocks toy (blockBits 1)) 0 .0 ∷ radioBits toy (blockBits 1) (transport (0x01 ∷ [])) 1 2 g
+
+pub record Case : Type 0 where
+  pub computed : List ℕ
+  pub due : List ℕ
+
+unfoldable pub cases : List Case
+cases =
+    -- "P1 checksum 24A of octet 01 is 864CFB"
+    record { computed = checksum 24 gen24A (unpacked (0x01 ∷ [])) ∷ []; due = 0x864CFB ∷ [] }
+    -- "P2 of octet 02 is 8AD50D"
+    ∷ record { computed = checksum 24 gen24A (unpacked (0x02 ∷ [])) ∷ []; due = 0x8AD50D ∷ [] }
+    -- "P3 of octet 00 is 000000"
+    ∷ record { computed = checksum 24 gen24A (unpacked (0x00 ∷ [])) ∷ []; due = 0x000000 ∷ [] }
+    -- "P4 checksum 16 of the single bit 1 is 1021"
+    ∷ record { computed = checksum 16 gen16 (1 ∷ []) ∷ []; due = 0x1021 ∷ [] }
+    -- "P5 checksum 8 of it is 9B"
+    ∷ record { computed = checksum 8 gen8 (1 ∷ []) ∷ []; due = 0x9B ∷ [] }
+    -- "Toy code words: P6 00 gives 00000000"
+    ∷ record { computed = toyWord (0 ∷ 0 ∷ []); due = 0 ∷ 0 ∷ 0 ∷ 0 ∷ 0 ∷ 0 ∷ 0 ∷ 0 ∷ [] }
+    -- "P7 01 gives 01111011"
+    ∷ record { computed = toyWord (0 ∷ 1 ∷ []); due = 0 ∷ 1 ∷ 1 ∷ 1 ∷ 1 ∷ 0 ∷ 1 ∷ 1 ∷ [] }
+    -- "P8 10 gives 10110111"
+    ∷ record { computed = toyWord (1 ∷ 0 ∷ []); due = 1 ∷ 0 ∷ 1 ∷ 1 ∷ 0 ∷ 1 ∷ 1 ∷ 1 ∷ [] }
+    -- "P9 11 gives 11001100"
+    ∷ record { computed = toyWord (1 ∷ 1 ∷ []); due = 1 ∷ 1 ∷ 0 ∷ 0 ∷ 1 ∷ 1 ∷ 0 ∷ 0 ∷ [] }
+    -- "P10 toy, octet 01, N_L 1, Q_m 2, G 128: B 32, C 16, E 8", and the bits
+    ∷ record { computed = toySent 128; due = 32 ∷ 16 ∷ 8 ∷ unpacked p10Octets }
+    -- "The same with G 130: the same 128 bits and two zeros"
+    ∷ record { computed = toySent 130; due = 32 ∷ 16 ∷ 8 ∷ unpacked p10Octets ++ (0 ∷ 0 ∷ []) }
+    ∷ []
+
+abbrev pub computed : Case → List ℕ
+computed c = c .computed
+
+abbrev pub due : Case → List ℕ
+due c = c .due
