@@ -65,22 +65,23 @@ fn digit(shown: Shown, s: &[u8], k: usize) -> u8
 {
     match shown {
         Shown::Places => s[k] % 10,
-        Shown::Bits => half(octet(s, 8 * (k / 2)), k % 2),
+        Shown::Bits => four(s, 4 * k),
         Shown::Octets => half(s[k / 2], k % 2),
     }
 }
 
-// The octet that eight bits from `at` on stand for.
-fn octet(s: &[u8], at: usize) -> u8
+// The digit that four bits from `at` on stand for.
+fn four(s: &[u8], at: usize) -> u8
     requires { ⌜ at ≤ length (now s) + 8 ⌝ }
+    ensures { λ r. ⌜ r < 16 ⌝ }
 {
-    let mut eight = [0u8; 8];
+    let mut row = [0u8; 4];
     let mut i = 0;
-    while i < 8 {
-        eight[i] = bit(s, at + i);
+    while i < 4 {
+        row[i] = bit(s, at + i);
         i += 1;
     }
-    bits::inner::get_number(&eight, 0, 8) as u8
+    bits::inner::get_number(&row, 0, 4) as u8
 }
 
 // Behind the last bit there are zeros. The mask changes nothing in an octet that can be shown (`largest`).

@@ -1,9 +1,11 @@
 -- `bits::count::inner::symbol_places_for` meets its contract.
-use Prim.Native.Nat.{_*_, _≤_}
+use mathlib.Core.Path.{_≡_, ap}
+use Prim.Native.Nat.{ℕ, _*_, _/_, _≤_}
 use native.Mathlib.Nat.{mul-le-mul}
 use native.Mathlib.Omega.{arith}
 use borrow.Author.Needs.{needs}
 use Rattle.bits.specs.Counts.{ceil, symbolPlacesFor}
+use Rattle.bits.specs.declared.count.SymbolPlaces.{SymbolPlaces}
 use Rattle.bits.proofs.count.inner.symbol_places_for.Statement.{statement}
 use Rattle.bits.proofs.count.inner.symbol_places_for.Tie as tie
 
@@ -24,9 +26,16 @@ add-t6 c =
 div-t7 : tie.Need-div-t7
 div-t7 c = search needs
 
+-- a quotient is decided by what is divided, however it is written
+quotient : (a b k : ℕ) → a ≡ b → a / k ≡ b / k
+quotient a b k e = ap (λ (n : ℕ). n / k) e
+
+abbrev places : ℕ → SymbolPlaces
+places n = record { 0 = n }
+
 returns : tie.Need-returns
 unfolding ceil symbolPlacesFor
-returns c = search needs
+returns c = ap places (quotient _ _ _ (omega arith))
 
 pub symbol-places-for-spec : {M : Type 1} → statement M
 symbol-places-for-spec = tie.close (tie.spec mul-each sub-t5 add-t6 div-t7 returns)
