@@ -28,8 +28,8 @@ blockIndex R octets = sizeIndex R (blockBits octets)
 unfoldable pub blockShare : List ℕ → ℕ → ℕ → ℕ → ℕ → ℕ
 blockShare R octets nl qm g = nl * qm * (g / (nl * qm) / blockCount R octets)
 
--- 3 and 4. w is the coded block of these own bits: "Places past a block's own bits, at its end, are filler", "K systematic places and then m·z parity bits. It must check with filler read as 0. Filler places
--- stay marked."
+-- 3 and 4. w is the coded block of these own bits: "Places past a block's own bits, at its end, are filler"; "K systematic places and then m·z parity
+-- bits. It must check with filler read as 0. Filler places stay marked."
 pub record Word (R : List ℕ) (octets : ℕ) (mine w : List ℕ) : Type 0 where
   pub systematic : take (blockPlaces R octets) w ≡ mine ++ replicate (blockPlaces R octets - length mine) 2
   pub long : length w ≡ blockPlaces R octets + m R * z R (blockIndex R octets)

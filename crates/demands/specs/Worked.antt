@@ -1,4 +1,5 @@
--- The cases marked P of document 01, "Small profile and worked numbers", and the one after P10, in one table: what the definitions compute, and what is due.
+-- The cases marked P of document 01, "Small profile and worked numbers", and the one after P10, in one table: what the definitions compute, and what
+-- is due.
 use mathlib.Core.Bool.{cond}
 use mathlib.Core.List.{List, [], _∷_, _++_}
 use Prim.Native.Nat.{ℕ}
