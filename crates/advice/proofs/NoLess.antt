@@ -12,20 +12,22 @@ use lib.Dec.{eqb, ltb, lit<}
 use lib.ListN.{length}
 use Rattle.bits.specs.Bits.{someOver}
 use Rattle.bits.specs.Numbers.{answered}
-use Rattle.bits.specs.Ranges.{firstBelow}
+use Rattle.bits.specs.Ranges.{firstBelow, within}
+use Rattle.bits.specs.Counts.{usable, placeBits}
+use Rattle.bits.specs.declared.count.Terms.{Terms}
 use Rattle.bits.proofs.Answers.{applies, passes, passed}
 use Rattle.bits.proofs.Ranges.{neither, equal-or, none-any, First, first-some}
-use Rattle.profile.specs.Record.{within}
-use Rattle.profile.specs.Plan.{blockBits, blocks}
 use Rattle.profile.proofs.Answers.{judged-passed}
-use Rattle.profile.proofs.Plans.{plan-passed}
+use Rattle.cutting.specs.Plan.{blockBits, blocks}
+use Rattle.cutting.proofs.Plans.{plan-passed}
 use Rattle.coding.specs.Allocation.{misallocated}
 use Rattle.coding.specs.Receiving.{someSentAs, someWithoutRoom}
 use Rattle.coding.specs.Promises.{tooFewPlaces, notOctets, receiveNumber}
+use Rattle.coding.specs.steps.Numbers.{cutNumber}
+use Rattle.coding.proofs.RequestNumber.{cut-passed}
 use Rattle.advice.specs.Least.{hasRoom, allocations, roomAt, someRoom, leastBits}
 use Rattle.advice.specs.Promises.{leastNumber}
-use Rattle.advice.specs.steps.Counting.{cutNumber}
-use Rattle.advice.proofs.Numbers.{cut-passed, least-first, least-last, right}
+use Rattle.advice.proofs.Numbers.{least-first, least-last, right}
 
 -- ---- what the number says
 
@@ -54,135 +56,135 @@ both-fail true b e = absurd (let z : _≡_ {A = ℕ} 0 1 = cc in omega arith)
 both-fail false true e = absurd (let z : _≡_ {A = ℕ} 0 1 = cc in omega arith)
 both-fail false false e = (refl, refl)
 
-module _ (R : List ℕ) (octets nl qm : ℕ) where
+module _ (R : List ℕ) (octets : ℕ) (terms : Terms) where
   -- 10 or 13: G has no room
   abbrev pub TenOrThirteen : ℕ → Type 0
-  TenOrThirteen g = (tooFewPlaces R octets nl qm g ≡ true) ⊎ (someWithoutRoom R octets nl qm g ≡ true)
+  TenOrThirteen g = (tooFewPlaces R octets terms g ≡ true) ⊎ (someWithoutRoom R octets terms g ≡ true)
 
-  least-passed : leastNumber R octets nl qm ≡ 0 → (cutNumber R octets nl qm ≡ 0) × (someRoom R octets nl qm ≡ true)
+  least-passed : leastNumber R octets terms ≡ 0 → (cutNumber R octets terms 0 ≡ 0) × (someRoom R octets terms ≡ true)
   least-passed e =
-      equal-or (cutNumber R octets nl qm) 0
-      (λ z. (z, not-false (someRoom R octets nl qm) (passed 13 [] (not (someRoom R octets nl qm)) (lit< tt) (sym (least-last R octets nl qm z) ∙ e) .0)))
-      (λ n. absurd (n (sym (least-first R octets nl qm n) ∙ e)))
+      equal-or (cutNumber R octets terms 0) 0
+      (λ z. (z, not-false (someRoom R octets terms) (passed 13 [] (not (someRoom R octets terms)) (lit< tt) (sym (least-last R octets terms z) ∙ e) .0)))
+      (λ n. absurd (n (sym (least-first R octets terms n) ∙ e)))
 
-  least-thirteen : leastNumber R octets nl qm ≡ 13 → (cutNumber R octets nl qm ≡ 0) × (someRoom R octets nl qm ≡ false)
+  least-thirteen : leastNumber R octets terms ≡ 13 → (cutNumber R octets terms 0 ≡ 0) × (someRoom R octets terms ≡ false)
   unfolding cutNumber
   least-thirteen e =
-      equal-or (cutNumber R octets nl qm) 0
-      (λ z. (z, thirteen-is (someRoom R octets nl qm) (sym (least-last R octets nl qm z) ∙ e)))
-      (λ n. absurd (not-thirteen _ _ _ _ _ (sym (least-first R octets nl qm n) ∙ e)))
+      equal-or (cutNumber R octets terms 0) 0
+      (λ z. (z, thirteen-is (someRoom R octets terms) (sym (least-last R octets terms z) ∙ e)))
+      (λ n. absurd (not-thirteen _ _ _ _ _ (sym (least-first R octets terms n) ∙ e)))
 
   -- ---- the G that 8 does not refuse are the allocations
 
-  module _ (some : 0 < nl * qm) (g : ℕ) (allowed : misallocated nl qm g ≡ false) where
-    parts : (g ≤ 65536) × (g % (nl * qm) ≡ 0)
+  module _ (some : 0 < placeBits terms) (g : ℕ) (allowed : misallocated terms g ≡ false) where
+    parts : (g ≤ 65536) × (g % placeBits terms ≡ 0)
     unfolding misallocated
     parts =
-        let last = neither (not (within 1 4 nl) || not (eqb qm 2 || eqb qm 4 || eqb qm 6) || ltb 65536 g) (not (eqb (g % (nl * qm)) 0)) allowed in
-        let third = neither (not (within 1 4 nl) || not (eqb qm 2 || eqb qm 4 || eqb qm 6)) (ltb 65536 g) (last .0) in
-        (ltb-false 65536 g (third .1), eqb-true (g % (nl * qm)) 0 (not-false (eqb (g % (nl * qm)) 0) (last .1)))
+        let last = neither (not (usable terms) || ltb 65536 g) (not (eqb (g % placeBits terms) 0)) allowed in
+        let third = neither (not (usable terms)) (ltb 65536 g) (last .0) in
+        (ltb-false 65536 g (third .1), eqb-true (g % placeBits terms) 0 (not-false (eqb (g % placeBits terms) 0) (last .1)))
 
-    multiple : nl * qm * (g / (nl * qm)) ≡ g
-    multiple = omega (arith, div-add-mod g (nl * qm), parts .1)
+    multiple : placeBits terms * (g / placeBits terms) ≡ g
+    multiple = omega (arith, div-add-mod g (placeBits terms), parts .1)
 
-    counted : g / (nl * qm) < allocations nl qm
+    counted : g / placeBits terms < allocations terms
     unfolding allocations
     counted =
-        let most : g / (nl * qm) ≤ 65536 / (nl * qm) = le-div-iff-mul-le some .1 (omega (arith, parts .0, multiple, mul-comm (g / (nl * qm)) (nl * qm))) in
+        let most : g / placeBits terms ≤ 65536 / placeBits terms = le-div-iff-mul-le some .1 (omega (arith, parts .0, multiple, mul-comm (g / placeBits terms) (placeBits terms))) in
         omega arith
 
-    without : roomAt R octets nl qm (g / (nl * qm)) ≡ false → TenOrThirteen g
+    without : roomAt R octets terms (g / placeBits terms) ≡ false → TenOrThirteen g
     unfolding roomAt hasRoom
-    without e = one-holds (tooFewPlaces R octets nl qm g) (someWithoutRoom R octets nl qm g) (rw multiple at e)
+    without e = one-holds (tooFewPlaces R octets terms g) (someWithoutRoom R octets terms g) (rw multiple at e)
 
   -- ---- where there is a least
 
-  module _ (e : leastNumber R octets nl qm ≡ 0) where
-    some : 0 < nl * qm
-    some = right R octets nl qm (least-passed e .0) .some
+  module _ (e : leastNumber R octets terms ≡ 0) where
+    some : 0 < placeBits terms
+    some = right R octets terms (least-passed e .0) .usable .some
 
-    first : First (allocations nl qm) (roomAt R octets nl qm) (firstBelow (allocations nl qm) (roomAt R octets nl qm))
+    first : First (allocations terms) (roomAt R octets terms) (firstBelow (allocations terms) (roomAt R octets terms))
     unfolding someRoom
-    first = first-some (allocations nl qm) (roomAt R octets nl qm) (least-passed e .1)
+    first = first-some (allocations terms) (roomAt R octets terms) (least-passed e .1)
 
-    pub least-has-room : hasRoom R octets nl qm (leastBits R octets nl qm) ≡ true
+    pub least-has-room : hasRoom R octets terms (leastBits R octets terms) ≡ true
     unfolding leastBits roomAt
     least-has-room = first .holds
 
-    pub less-has-none : (g : ℕ) → g < leastBits R octets nl qm → misallocated nl qm g ≡ false → TenOrThirteen g
+    pub less-has-none : (g : ℕ) → g < leastBits R octets terms → misallocated terms g ≡ false → TenOrThirteen g
     unfolding leastBits
     less-has-none g less allowed =
-        let k = firstBelow (allocations nl qm) (roomAt R octets nl qm) in
-        let before : g / (nl * qm) < k = div-lt-iff-lt-mul some .1 (omega (arith, mul-comm k (nl * qm))) in
-        without some g allowed (first .none (g / (nl * qm)) before)
+        let k = firstBelow (allocations terms) (roomAt R octets terms) in
+        let before : g / placeBits terms < k = div-lt-iff-lt-mul some .1 (omega (arith, mul-comm k (placeBits terms))) in
+        without some g allowed (first .none (g / placeBits terms) before)
 
     -- it can be asked for
-    pub least-allowed : misallocated nl qm (leastBits R octets nl qm) ≡ false
+    pub least-allowed : misallocated terms (leastBits R octets terms) ≡ false
     unfolding misallocated leastBits allocations
     least-allowed =
-        let k = firstBelow (suc (65536 / (nl * qm))) (roomAt R octets nl qm) in
-        let order = not (within 1 4 nl) || not (eqb qm 2 || eqb qm 4 || eqb qm 6) in
-        let zero = cut-passed R octets nl qm (least-passed e .0) .1 in
-        let third = neither (order || ltb 65536 0) (not (eqb (0 % (nl * qm)) 0)) zero .0 in
+        let k = firstBelow (suc (65536 / placeBits terms)) (roomAt R octets terms) in
+        let order = not (usable terms) in
+        let zero = cut-passed R octets terms 0 (least-passed e .0) .1 in
+        let third = neither (order || ltb 65536 0) (not (eqb (0 % placeBits terms) 0)) zero .0 in
         let second = neither order (ltb 65536 0) third .0 in
-        let few : k * (nl * qm) ≤ 65536 = le-div-iff-mul-le some .0 (omega (arith, first .below)) in
-        let most : nl * qm * k ≤ 65536 = omega (arith, mul-comm k (nl * qm)) in
-        rw (second, le-ltb 65536 (nl * qm * k) most, eq-eqb (nl * qm * k % (nl * qm)) 0 (mul-mod-right (nl * qm) k))
+        let few : k * (placeBits terms) ≤ 65536 = le-div-iff-mul-le some .0 (omega (arith, first .below)) in
+        let most : placeBits terms * k ≤ 65536 = omega (arith, mul-comm k (placeBits terms)) in
+        rw (second, le-ltb 65536 (placeBits terms * k) most, eq-eqb (placeBits terms * k % placeBits terms) 0 (mul-mod-right (placeBits terms) k))
 
   -- ---- where there is none
 
-  pub none-has-room : leastNumber R octets nl qm ≡ 13 → (g : ℕ) → misallocated nl qm g ≡ false → TenOrThirteen g
+  pub none-has-room : leastNumber R octets terms ≡ 13 → (g : ℕ) → misallocated terms g ≡ false → TenOrThirteen g
   unfolding someRoom
   none-has-room e g allowed =
       let found = least-thirteen e in
-      let some = right R octets nl qm (found .0) .some in
-      without some g allowed (none-any (allocations nl qm) (roomAt R octets nl qm) (found .1) (g / (nl * qm)) (counted some g allowed))
+      let some = right R octets terms (found .0) .usable .some in
+      without some g allowed (none-any (allocations terms) (roomAt R octets terms) (found .1) (g / placeBits terms) (counted some g allowed))
 
   -- ---- in the numbers of receiving: bits that 8, 11 and 12 do not refuse
 
-  module _ (bits : List ℕ) (room : ℕ) (e : cutNumber R octets nl qm ≡ 0) (allowed : misallocated nl qm (length bits) ≡ false) where
+  module _ (bits : List ℕ) (room : ℕ) (e : cutNumber R octets terms 0 ≡ 0) (allowed : misallocated terms (length bits) ≡ false) where
     later : List (ℕ × Bool)
-    later = (11, ltb room octets) ∷ (12, someOver 1 bits) ∷ (13, someWithoutRoom R octets nl qm (length bits)) ∷ (14, not (someSentAs R octets nl qm bits)) ∷ []
+    later = (11, ltb room octets) ∷ (12, someOver 1 bits) ∷ (13, someWithoutRoom R octets terms (length bits)) ∷ (14, not (someSentAs R octets terms bits)) ∷ []
 
-    from-ten : receiveNumber R (8 * octets) nl qm bits room ≡ answered ((10, tooFewPlaces R octets nl qm (length bits)) ∷ later)
+    from-ten : receiveNumber R (8 * octets) terms bits room ≡ answered ((10, tooFewPlaces R octets terms (length bits)) ∷ later)
     unfolding receiveNumber notOctets later
     from-ten =
         let back : 8 * octets / 8 ≡ octets = mul-div-cancel-left octets (lit< tt) in
         let whole : 8 * octets % 8 ≡ 0 = mul-mod-right 8 octets in
-        let tests = plan-passed R octets (cut-passed R octets nl qm e .0) in
+        let tests = plan-passed R octets (cut-passed R octets terms 0 e .0) in
         let seven : not (eqb (8 * octets % 8) 0 && within 1 2048 octets) ≡ false =
         rw (eq-eqb (8 * octets % 8) 0 whole, le-leb 1 octets (tests .1), le-leb octets 2048 (tests .2)) in
         rw back (judged-passed R _ (tests .0) ∙ passes 7 _ seven ∙ passes 8 _ allowed ∙ passes 9 _ (le-ltb 64 (blocks R (blockBits octets)) (tests .3)))
 
     without-room : octets ≤ room → someOver 1 bits ≡ false → TenOrThirteen (length bits)
-        → (receiveNumber R (8 * octets) nl qm bits room ≡ 10) ⊎ (receiveNumber R (8 * octets) nl qm bits room ≡ 13)
+        → (receiveNumber R (8 * octets) terms bits room ≡ 10) ⊎ (receiveNumber R (8 * octets) terms bits room ≡ 13)
     unfolding later
-    without-room fits single none = by-value (tooFewPlaces R octets nl qm (length bits)) refl none
+    without-room fits single none = by-value (tooFewPlaces R octets terms (length bits)) refl none
       where
-        by-value : (few : Bool) → tooFewPlaces R octets nl qm (length bits) ≡ few
-            → (few ≡ true) ⊎ (someWithoutRoom R octets nl qm (length bits) ≡ true)
-            → (receiveNumber R (8 * octets) nl qm bits room ≡ 10) ⊎ (receiveNumber R (8 * octets) nl qm bits room ≡ 13)
+        by-value : (few : Bool) → tooFewPlaces R octets terms (length bits) ≡ few
+            → (few ≡ true) ⊎ (someWithoutRoom R octets terms (length bits) ≡ true)
+            → (receiveNumber R (8 * octets) terms bits room ≡ 10) ⊎ (receiveNumber R (8 * octets) terms bits room ≡ 13)
         by-value true q h = inl (from-ten ∙ applies 10 _ q)
         by-value false q (inl h) = absurd (let z : _≡_ {A = ℕ} 0 1 = cc in omega arith)
         by-value false q (inr h) = inr (from-ten ∙ passes 10 _ q ∙ passes 11 _ (le-ltb room octets fits) ∙ passes 12 _ single ∙ applies 13 _ h)
 
-  pub fewer-received : leastNumber R octets nl qm ≡ 0 → (bits : List ℕ) (room : ℕ) → length bits < leastBits R octets nl qm
-      → misallocated nl qm (length bits) ≡ false → octets ≤ room → someOver 1 bits ≡ false
-      → (receiveNumber R (8 * octets) nl qm bits room ≡ 10) ⊎ (receiveNumber R (8 * octets) nl qm bits room ≡ 13)
+  pub fewer-received : leastNumber R octets terms ≡ 0 → (bits : List ℕ) (room : ℕ) → length bits < leastBits R octets terms
+      → misallocated terms (length bits) ≡ false → octets ≤ room → someOver 1 bits ≡ false
+      → (receiveNumber R (8 * octets) terms bits room ≡ 10) ⊎ (receiveNumber R (8 * octets) terms bits room ≡ 13)
   fewer-received e bits room less allowed fits single =
       without-room bits room (least-passed e .0) allowed fits single (less-has-none e (length bits) less allowed)
 
-  pub none-received : leastNumber R octets nl qm ≡ 13 → (bits : List ℕ) (room : ℕ)
-      → misallocated nl qm (length bits) ≡ false → octets ≤ room → someOver 1 bits ≡ false
-      → (receiveNumber R (8 * octets) nl qm bits room ≡ 10) ⊎ (receiveNumber R (8 * octets) nl qm bits room ≡ 13)
+  pub none-received : leastNumber R octets terms ≡ 13 → (bits : List ℕ) (room : ℕ)
+      → misallocated terms (length bits) ≡ false → octets ≤ room → someOver 1 bits ≡ false
+      → (receiveNumber R (8 * octets) terms bits room ≡ 10) ⊎ (receiveNumber R (8 * octets) terms bits room ≡ 13)
   none-received e bits room allowed fits single =
       without-room bits room (least-thirteen e .0) allowed fits single (none-has-room e (length bits) allowed)
 
   -- and to the least: neither
-  pub least-received : leastNumber R octets nl qm ≡ 0 → (bits : List ℕ) (room : ℕ) → length bits ≡ leastBits R octets nl qm
-      → receiveNumber R (8 * octets) nl qm bits room
-      ≡ answered ((11, ltb room octets) ∷ (12, someOver 1 bits) ∷ (14, not (someSentAs R octets nl qm bits)) ∷ [])
+  pub least-received : leastNumber R octets terms ≡ 0 → (bits : List ℕ) (room : ℕ) → length bits ≡ leastBits R octets terms
+      → receiveNumber R (8 * octets) terms bits room
+      ≡ answered ((11, ltb room octets) ∷ (12, someOver 1 bits) ∷ (14, not (someSentAs R octets terms bits)) ∷ [])
   unfolding hasRoom later answered
   least-received e bits room size =
-      let none = both-fail (tooFewPlaces R octets nl qm (length bits)) (someWithoutRoom R octets nl qm (length bits)) (rw size (least-has-room e)) in
+      let none = both-fail (tooFewPlaces R octets terms (length bits)) (someWithoutRoom R octets terms (length bits)) (rw size (least-has-room e)) in
       from-ten bits room (least-passed e .0) (rw size (least-allowed e)) ∙ rw (none .0, none .1)

@@ -2,8 +2,8 @@
 use mathlib.Core.Path.{_≡_, sym, ap₂, _∙_}
 use mathlib.Core.List.{List}
 use Prim.Native.Nat.{ℕ}
-use Rattle.checksum.specs.declared.Sum.{Sum}
 use Rattle.checksum.specs.Promises.{OfBits, OfOctets}
+use Rattle.checksum.specs.declared.Sum.{Sum}
 
 made : ℕ → ℕ → Sum
 made n v = record { number = n; value = v }

@@ -11,42 +11,44 @@ use lib.ListN.{length, getD, take, drop, replicate, take-append-drop}
 use lib.Seq.{take-all, take-take, drop-at}
 use Rattle.bits.specs.Bits.{AreBits}
 use Rattle.bits.specs.Ranges.{sumBelow}
+use Rattle.bits.specs.declared.count.Terms.{Terms}
 use Rattle.bits.proofs.Lists.{bits-take, bits-drop, length-part}
 use Rattle.bits.proofs.Ranges.{none-any}
-use Rattle.bits.proofs.Sums.{sum-same}
-use Rattle.profile.specs.Record.{kb, m, z, table}
-use Rattle.profile.specs.Plan.{blockBits, blocks, ownBits, sizeIndex, places, filler}
-use Rattle.profile.proofs.Plans.{Cut, plan-cut}
-use Rattle.coding.specs.Cutting.{ownStart, own, systematic}
+use Rattle.bits.proofs.Sums.{sum-same, sum-mono}
+use Rattle.bits.proofs.Listed.{length-list}
+use Rattle.profile.specs.Record.{kb, z, rows, columns, table}
+use Rattle.profile.proofs.Shape.{columns-is}
+use Rattle.cutting.specs.Plan.{blockBits, blocks, ownBits, sizeIndex, places, filler}
+use Rattle.cutting.specs.Cutting.{ownStart, own, systematic}
+use Rattle.cutting.proofs.Plans.{Cut, plan-cut}
+use Rattle.matching.specs.Matching.{matched}
 use Rattle.coding.specs.Blocks.{codedBlock, sendable}
 use Rattle.coding.specs.Allocation.{share}
-use Rattle.coding.specs.Matching.{matched}
 use Rattle.coding.specs.Joining.{blockSent, joined, padded, radioBits}
 use Rattle.coding.specs.Receiving.{someWithoutRoom}
 use Rattle.coding.specs.steps.Receiving.{shareStart, ownReceived, gathered, Receivable}
 use Rattle.coding.proofs.ReceivedBlock.{front-own}
 use Rattle.coding.proofs.Joining.{length-joined, joined-part, joined-same, joined-bits, joined-cut}
-use Rattle.coding.proofs.Places.{length-list}
-use Rattle.coding.proofs.Shares.{sum-mono, shares-fit}
+use Rattle.coding.proofs.Shares.{shares-fit}
 
 -- bits in which every block has room for its coded bits that are not filler
-pub record HasRoom (R : List ℕ) (b nl qm : ℕ) (bits : List ℕ) : Type 0 where
+pub record HasRoom (R : List ℕ) (b : ℕ) (terms : Terms) (bits : List ℕ) : Type 0 where
   pub cut : Cut R b
   pub single : AreBits bits
-  pub room : (r : ℕ) → r < blocks R b → sendable R b r ≤ share nl qm (length bits) (blocks R b) r .0
+  pub room : (r : ℕ) → r < blocks R b → sendable R b r ≤ share terms (length bits) (blocks R b) r .0
 
-pub has-room-of : (R : List ℕ) (octets nl qm : ℕ) (bits : List ℕ) → Receivable R octets nl qm bits → HasRoom R (blockBits octets) nl qm bits
+pub has-room-of : (R : List ℕ) (octets : ℕ) (terms : Terms) (bits : List ℕ) → Receivable R octets terms bits → HasRoom R (blockBits octets) terms bits
 unfolding someWithoutRoom
-has-room-of R octets nl qm bits h =
+has-room-of R octets terms bits h =
     let b = blockBits octets in
     let c = blocks R b in
     record {
       cut = plan-cut R octets (h .taken);
       single = h .single;
-      room = λ r l. ltb-false _ _ (none-any c (λ i. ltb (share nl qm (length bits) c i .0) (sendable R b i)) (h .room) r l);
+      room = λ r l. ltb-false _ _ (none-any c (λ i. ltb (share terms (length bits) c i .0) (sendable R b i)) (h .room) r l);
     }
 
-module _ (R : List ℕ) (b nl qm : ℕ) (bits : List ℕ) (h : HasRoom R b nl qm bits) where
+module _ (R : List ℕ) (b : ℕ) (terms : Terms) (bits : List ℕ) (h : HasRoom R b terms bits) where
   abbrev c : ℕ
   c = blocks R b
 
@@ -57,10 +59,10 @@ module _ (R : List ℕ) (b nl qm : ℕ) (bits : List ℕ) (h : HasRoom R b nl qm
   mine r = ownBits b c r
 
   abbrev given : ℕ → ℕ
-  given r = share nl qm g c r .0
+  given r = share terms g c r .0
 
   abbrev at : ℕ → ℕ
-  at r = shareStart nl qm g c r
+  at r = shareStart terms g c r
 
   cut : Cut R b
   cut = h .cut
@@ -71,48 +73,48 @@ module _ (R : List ℕ) (b nl qm : ℕ) (bits : List ℕ) (h : HasRoom R b nl qm
   own-fits r = omega (arith, cut .own-most r, cut .room)
 
   -- N is the block's own bits and its parity bits
-  sendable-is : (r : ℕ) → sendable R b r ≡ mine r + m R * z R (sizeIndex R b)
+  sendable-is : (r : ℕ) → sendable R b r ≡ mine r + rows R * z R (sizeIndex R b)
   unfolding sendable filler
-  sendable-is r = omega (arith, cut .product, add-mul (kb R) (m R) (z R (sizeIndex R b)), own-fits r)
+  sendable-is r = omega (arith, cut .product, ap (λ (n : ℕ). n * z R (sizeIndex R b)) (columns-is R), add-mul (kb R) (rows R) (z R (sizeIndex R b)), own-fits r)
 
-  pub has-room : (r : ℕ) → r < c → mine r + m R * z R (sizeIndex R b) ≤ given r
+  pub has-room : (r : ℕ) → r < c → mine r + rows R * z R (sizeIndex R b) ≤ given r
   has-room r l = omega (arith, sendable-is r, h .room r l)
 
   pub stretch-within : (r : ℕ) → r < c → at r + given r ≤ g
   unfolding shareStart sumBelow
   stretch-within r l =
       let within : suc r ≤ c = omega arith in
-      omega (arith, sum-mono (λ i. share nl qm g c i .0) (suc r) c within, shares-fit nl qm g c)
+      omega (arith, sum-mono (λ i. share terms g c i .0) (suc r) c within, shares-fit terms g c)
 
   -- ---- the gathered bits
 
   abbrev t : List ℕ
-  t = gathered R b nl qm bits
+  t = gathered R b terms bits
 
-  received-is : (r : ℕ) → ownReceived R b nl qm bits r ≡ take (mine r) (drop (at r) bits)
+  received-is : (r : ℕ) → ownReceived R b terms bits r ≡ take (mine r) (drop (at r) bits)
   unfolding ownReceived
   received-is r = refl
 
-  received-length : (r : ℕ) → r < c → length (ownReceived R b nl qm bits r) ≡ mine r
+  received-length : (r : ℕ) → r < c → length (ownReceived R b terms bits r) ≡ mine r
   received-length r l = ap length (received-is r) ∙ length-part (mine r) (at r) bits (omega (arith, has-room r l, stretch-within r l))
 
-  pub front-length : (r : ℕ) → r ≤ c → length (joined r (ownReceived R b nl qm bits)) ≡ ownStart R b r
+  pub front-length : (r : ℕ) → r ≤ c → length (joined r (ownReceived R b terms bits)) ≡ ownStart R b r
   unfolding ownStart
-  front-length r l = length-joined (ownReceived R b nl qm bits) r ∙ sum-same r _ _ (λ i o. received-length i (omega arith))
+  front-length r l = length-joined (ownReceived R b terms bits) r ∙ sum-same r _ _ (λ i o. received-length i (omega arith))
 
-  pub gathered-length : length (gathered R b nl qm bits) ≡ b
+  pub gathered-length : length (gathered R b terms bits) ≡ b
   unfolding gathered ownStart
   gathered-length = front-length c (omega arith) ∙ cut .own-sum
 
-  pub gathered-bits : AreBits (gathered R b nl qm bits)
+  pub gathered-bits : AreBits (gathered R b terms bits)
   unfolding gathered ownReceived
-  gathered-bits = joined-bits (ownReceived R b nl qm bits) c (λ r l. bits-take (mine r) (drop (at r) bits) (bits-drop (at r) bits (h .single)))
+  gathered-bits = joined-bits (ownReceived R b terms bits) c (λ r l. bits-take (mine r) (drop (at r) bits) (bits-drop (at r) bits (h .single)))
 
   -- block r's own bits are those that stand at the beginning of its stretch
-  pub own-gathered : (r : ℕ) → r < c → own R b t r ≡ ownReceived R b nl qm bits r
+  pub own-gathered : (r : ℕ) → r < c → own R b t r ≡ ownReceived R b terms bits r
   unfolding own gathered
   own-gathered r l =
-      let f = ownReceived R b nl qm bits in
+      let f = ownReceived R b terms bits in
       let part = joined-part f c r [] l in
       let size : length (f r) ≡ mine r = received-length r l in
       let start : length (joined r f) ≡ ownStart R b r = front-length r (omega arith) in
@@ -122,7 +124,7 @@ module _ (R : List ℕ) (b nl qm : ℕ) (bits : List ℕ) (h : HasRoom R b nl qm
 
   module _ (u : List ℕ) where
     f : ℕ → List ℕ
-    f = blockSent R b u nl qm g
+    f = blockSent R b u terms g
 
     block-length : (r : ℕ) → length (f r) ≡ given r
     unfolding f blockSent matched
@@ -132,16 +134,16 @@ module _ (R : List ℕ) (b nl qm : ℕ) (bits : List ℕ) (h : HasRoom R b nl qm
     unfolding f shareStart
     sent-length r = length-joined f r ∙ sum-same r _ _ (λ i o. block-length i)
 
-    sent-is : radioBits R b u nl qm g ≡ joined c f ++ replicate (g - at c) 0
+    sent-is : radioBits R b u terms g ≡ joined c f ++ replicate (g - at c) 0
     unfolding f radioBits padded
     sent-is = ap (λ (n : ℕ). joined c f ++ replicate (g - n) 0) (sent-length c)
 
-    module _ (e : radioBits R b u nl qm g ≡ bits) where
+    module _ (e : radioBits R b u terms g ≡ bits) where
       whole : bits ≡ joined c f ++ replicate (g - at c) 0
       whole = sym e ∙ sent-is
 
       -- each block's bits are its stretch
-      pub stretch-sent : (r : ℕ) → r < c → blockSent R b u nl qm g r ≡ take (given r) (drop (at r) bits)
+      pub stretch-sent : (r : ℕ) → r < c → blockSent R b u terms g r ≡ take (given r) (drop (at r) bits)
       unfolding f
       stretch-sent r l =
           let part = joined-part f c r (replicate (g - at c) 0) l in
@@ -153,15 +155,15 @@ module _ (R : List ℕ) (b nl qm : ℕ) (bits : List ℕ) (h : HasRoom R b nl qm
       rest-sent = ap (drop (at c)) whole ∙ drop-at (joined c f) (replicate (g - at c) 0) (at c) (sent-length c)
 
     -- the other way round
-    pub all-sent : ((r : ℕ) → r < c → blockSent R b u nl qm g r ≡ take (given r) (drop (at r) bits)) → drop (at c) bits ≡ replicate (g - at c) 0
-        → radioBits R b u nl qm g ≡ bits
+    pub all-sent : ((r : ℕ) → r < c → blockSent R b u terms g r ≡ take (given r) (drop (at r) bits)) → drop (at c) bits ≡ replicate (g - at c) 0
+        → radioBits R b u terms g ≡ bits
     unfolding f shareStart
     all-sent each rest =
         sent-is ∙ ap₂ (λ (x y : List ℕ). x ++ y) (joined-same f (λ r. take (given r) (drop (at r) bits)) c each ∙ joined-cut given bits c) (sym rest)
         ∙ take-append-drop (at c) bits
 
     -- they are the gathered ones
-    module _ (size : length u ≡ b) (single : AreBits u) (e : radioBits R b u nl qm g ≡ bits) where
+    module _ (size : length u ≡ b) (single : AreBits u) (e : radioBits R b u terms g ≡ bits) where
       own-part : (r : ℕ) → own R b u r ≡ take (mine r) (drop (ownStart R b r) u)
       unfolding own
       own-part r = refl
@@ -172,16 +174,16 @@ module _ (R : List ℕ) (b nl qm : ℕ) (bits : List ℕ) (h : HasRoom R b nl qm
           let within : suc r ≤ c = omega arith in
           ap length (own-part r) ∙ length-part (mine r) (ownStart R b r) u (omega (arith, size, cut .own-sum, sum-mono mine (suc r) c within))
 
-      own-begins : (r : ℕ) → r < c → take (length (own R b u r)) (blockSent R b u nl qm g r) ≡ own R b u r
+      own-begins : (r : ℕ) → r < c → take (length (own R b u r)) (blockSent R b u terms g r) ≡ own R b u r
       unfolding blockSent codedBlock systematic
       own-begins r l =
           let product = cut .product in
           rw product
-          (front-own (table R (sizeIndex R b)) (own R b u r) (kb R) (m R) (z R (sizeIndex R b))
+          (front-own (table R (sizeIndex R b)) (own R b u r) (kb R) (rows R) (columns R) (z R (sizeIndex R b)) (columns-is R)
           (λ k. subst (λ (s : List ℕ). getD s k 0 < 2) (sym (own-part r)) (bits-take (mine r) (drop (ownStart R b r) u) (bits-drop (ownStart R b r) u single) k))
           (omega (arith, own-size r l, own-fits r, product)) (given r) (omega (arith, own-size r l, has-room r l)))
 
-      own-sent : (r : ℕ) → r < c → own R b u r ≡ ownReceived R b nl qm bits r
+      own-sent : (r : ℕ) → r < c → own R b u r ≡ ownReceived R b terms bits r
       own-sent r l =
           sym (own-begins r l) ∙ ap₂ (λ (n : ℕ) (s : List ℕ). take n s) (own-size r l) (stretch-sent e r l)
           ∙ take-take (mine r) (given r) (drop (at r) bits) (omega (arith, has-room r l)) ∙ sym (received-is r)
@@ -192,4 +194,4 @@ module _ (R : List ℕ) (b nl qm : ℕ) (bits : List ℕ) (h : HasRoom R b nl qm
           sym (take-all b u (omega (arith, size)))
           ∙ ap (λ (n : ℕ). take n u) (sym (cut .own-sum))
           ∙ sym (joined-cut mine u c)
-          ∙ joined-same (λ r. take (mine r) (drop (ownStart R b r) u)) (ownReceived R b nl qm bits) c (λ r l. sym (own-part r) ∙ own-sent r l)
+          ∙ joined-same (λ r. take (mine r) (drop (ownStart R b r) u)) (ownReceived R b terms bits) c (λ r l. sym (own-part r) ∙ own-sent r l)

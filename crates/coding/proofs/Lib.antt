@@ -1,16 +1,11 @@
-pub mod Places
-pub mod Kept
 pub mod Answers
-pub mod Runs
 pub mod Joining
 pub mod Shares
-pub mod Filler
 pub mod PlanFields
 pub mod Sent
 pub mod ReceivedBlock
 pub mod Gathered
 pub mod RequestNumber
-pub mod Transported
 pub mod Received
 pub mod Rebuilt
 pub mod ReceptionNumber

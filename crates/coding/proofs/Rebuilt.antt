@@ -7,45 +7,31 @@ use native.Mathlib.Nat.{add-mul}
 use native.Mathlib.Numerals.{add-one}
 use native.Mathlib.Omega.{arith}
 use borrow.Author.Tests.{not-false}
-use lib.ListN.{length, getD, take, drop, replicate, length-append, length-drop, getD-replicate, length-replicate, List·getD-append}
-use lib.Seq.{ext-getD, getD-append-add, getD-drop, getD-take, length-take-le, take-take}
-use Rattle.bits.specs.Bits.{same, someOver}
+use lib.ListN.{length, getD, take, drop, replicate, length-drop, getD-replicate, length-replicate}
+use lib.Seq.{ext-getD, take-take}
+use Rattle.bits.specs.Bits.{same, someOver, withFiller}
 use Rattle.bits.specs.Ranges.{sumBelow}
+use Rattle.bits.specs.declared.count.Terms.{Terms}
+use Rattle.bits.specs.steps.Places.{Laid}
 use Rattle.bits.proofs.Lists.{same-equal, same-self, length-part}
 use Rattle.bits.proofs.Over.{none-over}
-use Rattle.bits.proofs.Ranges.{any-none, none-any, below-or, both, last-or}
-use Rattle.profile.specs.Record.{kb, m, table}
-use Rattle.profile.specs.Plan.{blockBits, blocks, ownBits}
-use Rattle.profile.specs.declared.Plan.{Plan}
-use Rattle.coding.specs.Cutting.{ownStart, withFiller, systematic}
+use Rattle.bits.proofs.Ranges.{any-none, none-any, both, last-or}
+use Rattle.bits.proofs.Laid.{laid-front}
+use Rattle.profile.specs.Record.{kb, rows, columns, table}
+use Rattle.profile.proofs.Shape.{columns-is}
+use Rattle.cutting.specs.Plan.{blockBits, blocks, ownBits}
+use Rattle.cutting.specs.Cutting.{ownStart, systematic}
+use Rattle.cutting.specs.declared.Plan.{Plan}
+use Rattle.cutting.proofs.PlanFields.{PlanFields, bits-is, plan-fields, places-product}
 use Rattle.coding.specs.Blocks.{blockHasParity, codedBlock, someWithoutParity}
 use Rattle.coding.specs.Allocation.{share}
 use Rattle.coding.specs.Joining.{blockSent, joined, radioBits}
-use Rattle.coding.specs.steps.Places.{Laid}
-use Rattle.coding.specs.steps.Receiving.{blockSentAs, shareStart, ownReceived, gathered, ReceivablePlan}
-use Rattle.coding.proofs.PlanFields.{PlanFields, bits-is, plan-fields, places-product}
+use Rattle.coding.specs.steps.Blocks.{blockSentAs}
+use Rattle.coding.specs.steps.Receiving.{shareStart, ownReceived, gathered, ReceivablePlan}
 use Rattle.coding.proofs.Gathered.{HasRoom, has-room-of, has-room, own-gathered, stretch-sent, rest-sent, all-sent}
 use Rattle.coding.proofs.Sent.{start-none, start-turn, own-is, own-fits, share-fits, share-turn}
 
 -- ---- lists
-
--- what was laid behind a front
-pub laid-front : (s a b : List ℕ) (from n at : ℕ) → from + n ≤ length s → at + n ≤ length a → Laid s from n a at b → take (at + n) b ≡ take at a ++ take n (drop from s)
-laid-front s a b from n at h l w =
-    let first : length (take at a) ≡ at = length-take-le at a (omega arith) in
-    let second : length (take n (drop from s)) ≡ n = length-part n from s h in
-    let long : length (take (at + n) b) ≡ at + n = length-take-le (at + n) b (omega (arith, w .len)) in
-    ext-getD 0 (take (at + n) b) (take at a ++ take n (drop from s)) (long ∙ sym (length-append (take at a) (take n (drop from s)) ∙ omega (arith, first, second)))
-    (λ k q.
-    let inside : k < at + n = omega (arith, long) in
-    getD-take (at + n) b k 0 inside ∙ below-or k at
-    (λ o. w .below k o ∙ sym (List·getD-append (take at a) (take n (drop from s)) 0 k (omega arith) ∙ getD-take at a k 0 o))
-    (λ o.
-    let back : at + (k - at) ≡ k = omega arith in
-    let back' : length (take at a) + (k - at) ≡ k = omega arith in
-    ap (λ (i : ℕ). getD b i 0) (sym back) ∙ w .inside (k - at) (omega arith)
-    ∙ sym (ap (λ (i : ℕ). getD (take at a ++ take n (drop from s)) i 0) (sym back') ∙ getD-append-add (take at a) (take n (drop from s)) (k - at) 0
-    ∙ getD-take n (drop from s) (k - at) 0 (omega arith) ∙ getD-drop from s (k - at) 0)))
 
 -- no octet over 0: all are zeros
 zeros-of : (l : List ℕ) → someOver 0 l ≡ false → l ≡ replicate (length l) 0
@@ -64,19 +50,19 @@ zeros-over (suc n) = zeros-over n
 -- ---- the walk
 
 -- the blocks before r were tested and are what the gathered bits are sent as, and their own bits stand in front of room
-pub record Walk (R : List ℕ) (nl qm : ℕ) (bits : List ℕ) (b : ℕ) (old : List ℕ) (r start from : ℕ) (room : List ℕ) : Type 0 where
+pub record Walk (R : List ℕ) (terms : Terms) (bits : List ℕ) (b : ℕ) (old : List ℕ) (r start from : ℕ) (room : List ℕ) : Type 0 where
   pub starts : start ≡ ownStart R b r
-  pub stands : from ≡ sumBelow r (λ i. share nl qm (length bits) (blocks R b) i .0)
-  pub parity : (i : ℕ) → i < r → blockHasParity R b (gathered R b nl qm bits) i ≡ true
+  pub stands : from ≡ sumBelow r (λ i. share terms (length bits) (blocks R b) i .0)
+  pub parity : (i : ℕ) → i < r → blockHasParity R b (gathered R b terms bits) i ≡ true
   pub sent : (i : ℕ) → i < r
-      → blockSent R b (gathered R b nl qm bits) nl qm (length bits) i
-      ≡ take (share nl qm (length bits) (blocks R b) i .0) (drop (sumBelow i (λ j. share nl qm (length bits) (blocks R b) j .0)) bits)
-  pub front : take start room ≡ joined r (ownReceived R b nl qm bits)
+      → blockSent R b (gathered R b terms bits) terms (length bits) i
+      ≡ take (share terms (length bits) (blocks R b) i .0) (drop (sumBelow i (λ j. share terms (length bits) (blocks R b) j .0)) bits)
+  pub front : take start room ≡ joined r (ownReceived R b terms bits)
   pub same : length room ≡ length old
 
-pub walk-none : (R : List ℕ) (nl qm : ℕ) (bits : List ℕ) (b : ℕ) (old : List ℕ) → Walk R nl qm bits b old 0 0 0 old
+pub walk-none : (R : List ℕ) (terms : Terms) (bits : List ℕ) (b : ℕ) (old : List ℕ) → Walk R terms bits b old 0 0 0 old
 unfolding sumBelow joined
-walk-none R nl qm bits b old =
+walk-none R terms bits b old =
     record {
       starts = sym (start-none R b);
       stands = refl;
@@ -86,39 +72,40 @@ walk-none R nl qm bits b old =
       same = refl;
     }
 
-module _ (R : List ℕ) (nl qm : ℕ) (bits : List ℕ) (p : Plan) (h : ReceivablePlan R nl qm bits p) where
+module _ (R : List ℕ) (terms : Terms) (bits : List ℕ) (p : Plan) (h : ReceivablePlan R terms bits p) where
   abbrev t : List ℕ
-  t = gathered R (p .bits) nl qm bits
+  t = gathered R (p .bits) terms bits
 
   pub fields : PlanFields R p
   fields = plan-fields R (h .octets) p (h .plan) (h .receivable .taken)
 
-  room-everywhere : HasRoom R (p .bits) nl qm bits
+  room-everywhere : HasRoom R (p .bits) terms bits
   room-everywhere =
       let is : blockBits (h .octets) ≡ p .bits = sym (bits-is R (h .octets) p (h .plan) (h .receivable .taken)) in
-      rw is at (has-room-of R (h .octets) nl qm bits (h .receivable))
+      rw is at (has-room-of R (h .octets) terms bits (h .receivable))
 
   -- in terms of the plan
   abbrev given : ℕ → ℕ
-  given r = share nl qm (length bits) (blocks R (p .bits)) r .0
+  given r = share terms (length bits) (blocks R (p .bits)) r .0
 
   abbrev at : ℕ → ℕ
   at r = sumBelow r given
 
-  pub room-here : (r n e : ℕ) → r < p .blocks → n ≡ ownBits (p .bits) (p .blocks) r → e ≡ given r → n + ((kb R + m R) * p .z - p .places) ≤ e
+  pub room-here : (r n e : ℕ) → r < p .blocks → n ≡ ownBits (p .bits) (p .blocks) r → e ≡ given r → n + (columns R * p .z - p .places) ≤ e
   room-here r n e l q d =
       let k = fields in
-      let room = has-room R (p .bits) nl qm bits room-everywhere r (omega (arith, k .blocks-is)) in
+      let room = has-room R (p .bits) terms bits room-everywhere r (omega (arith, k .blocks-is)) in
       let product = places-product R p k in
-      let parts = add-mul (kb R) (m R) (p .z) in
-      omega (arith, own-is R p k r n q, d, ap (λ (n : ℕ). m R * n) (k .z-is), room, product, parts)
+      let parts = add-mul (kb R) (rows R) (p .z) in
+      let wide : columns R * p .z ≡ (kb R + rows R) * p .z = ap (λ (n : ℕ). n * p .z) (columns-is R) in
+      omega (arith, own-is R p k r n q, d, ap (λ (n : ℕ). rows R * n) (k .z-is), room, product, parts, wide)
 
   -- block r, whose stretch begins at `from`, has e bits, and n own bits in front
   module _ (r from e n : ℕ) (l : r < p .blocks) (a : from ≡ at r) (d : e ≡ given r) (q : n ≡ ownBits (p .bits) (p .blocks) r) where
     abbrev s : List ℕ
     s = take e (drop from bits)
 
-    own-here : take n (drop from bits) ≡ ownReceived R (p .bits) nl qm bits r
+    own-here : take n (drop from bits) ≡ ownReceived R (p .bits) terms bits r
     unfolding ownReceived shareStart
     own-here = ap₂ (λ (i j : ℕ). take i (drop j bits)) (own-is R p fields r n q) a
 
@@ -126,89 +113,89 @@ module _ (R : List ℕ) (nl qm : ℕ) (bits : List ℕ) (p : Plan) (h : Receivab
     unfolding systematic
     cut-here =
         let less : n ≤ e = omega (arith, room-here r n e l q d) in
-        let mine = own-gathered R (p .bits) nl qm bits room-everywhere r (omega (arith, fields .blocks-is)) in
+        let mine = own-gathered R (p .bits) terms bits room-everywhere r (omega (arith, fields .blocks-is)) in
         ap₂ withFiller (fields .places-is) (take-take n e (drop from bits) less ∙ own-here ∙ sym mine)
 
     s-length : length s ≡ e
-    s-length = length-part e from bits (share-fits R p fields nl qm (length bits) r from e l a d)
+    s-length = length-part e from bits (share-fits R p fields terms (length bits) r from e l a d)
 
-    tested-is : blockSentAs (table R (p .index)) (kb R) (m R) (p .z) (withFiller (p .places) (take n s)) s
-        ≡ blockHasParity R (p .bits) t r && same (blockSent R (p .bits) t nl qm (length bits) r) s
+    tested-is : blockSentAs (table R (p .index)) (rows R) (columns R) (p .z) (withFiller (p .places) (take n s)) s
+        ≡ blockHasParity R (p .bits) t r && same (blockSent R (p .bits) t terms (length bits) r) s
     unfolding blockSentAs blockHasParity blockSent codedBlock
     tested-is = let k = fields in rw (cut-here, s-length, k .index-is, k .z-is, d)
 
-    stretch-is : radioBits R (p .bits) t nl qm (length bits) ≡ bits → blockSent R (p .bits) t nl qm (length bits) r ≡ s
+    stretch-is : radioBits R (p .bits) t terms (length bits) ≡ bits → blockSent R (p .bits) t terms (length bits) r ≡ s
     unfolding shareStart
     stretch-is whole =
-        stretch-sent R (p .bits) nl qm bits room-everywhere t whole r (omega (arith, fields .blocks-is)) ∙ ap₂ (λ (x y : ℕ). take x (drop y bits)) (sym d) (sym a)
+        stretch-sent R (p .bits) terms bits room-everywhere t whole r (omega (arith, fields .blocks-is)) ∙ ap₂ (λ (x y : ℕ). take x (drop y bits)) (sym d) (sym a)
 
     -- what the test of the block says
-    module _ (v : Bool) (tested : v ≡ blockSentAs (table R (p .index)) (kb R) (m R) (p .z) (withFiller (p .places) (take n s)) s) where
-      both-tests : v ≡ true → (blockHasParity R (p .bits) t r ≡ true) × (blockSent R (p .bits) t nl qm (length bits) r ≡ s)
+    module _ (v : Bool) (tested : v ≡ blockSentAs (table R (p .index)) (rows R) (columns R) (p .z) (withFiller (p .places) (take n s)) s) where
+      both-tests : v ≡ true → (blockHasParity R (p .bits) t r ≡ true) × (blockSent R (p .bits) t terms (length bits) r ≡ s)
       both-tests y =
-          let parts = both (blockHasParity R (p .bits) t r) (same (blockSent R (p .bits) t nl qm (length bits) r) s) (sym tested-is ∙ sym tested ∙ y) in
+          let parts = both (blockHasParity R (p .bits) t r) (same (blockSent R (p .bits) t terms (length bits) r) s) (sym tested-is ∙ sym tested ∙ y) in
           (parts .0, same-equal _ s (parts .1))
 
-      pub block-other : v ≡ false → someWithoutParity R (p .bits) t ≡ false → radioBits R (p .bits) t nl qm (length bits) ≡ bits → ⊥
+      pub block-other : v ≡ false → someWithoutParity R (p .bits) t ≡ false → radioBits R (p .bits) t terms (length bits) ≡ bits → ⊥
       unfolding someWithoutParity
       block-other y parity whole =
           let has = not-false (blockHasParity R (p .bits) t r) (none-any (blocks R (p .bits)) (λ i. not (blockHasParity R (p .bits) t i)) parity r (omega (arith, fields .blocks-is))) in
-          let is : blockHasParity R (p .bits) t r && same (blockSent R (p .bits) t nl qm (length bits) r) s ≡ true = rw (has, stretch-is whole) (same-self s) in
+          let is : blockHasParity R (p .bits) t r && same (blockSent R (p .bits) t terms (length bits) r) s ≡ true = rw (has, stretch-is whole) (same-self s) in
           true≢false (sym is ∙ sym tested-is ∙ sym tested ∙ y)
 
-      pub walk-more : (old room room' : List ℕ) (start : ℕ) → v ≡ true → 16408 ≤ length old → Walk R nl qm bits (p .bits) old r start from room
-          → Laid bits from n room start room' → Walk R nl qm bits (p .bits) old (r + 1) (start + n) (from + e) room'
+      pub walk-more : (old room room' : List ℕ) (start : ℕ) → v ≡ true → 16408 ≤ length old → Walk R terms bits (p .bits) old r start from room
+          → Laid bits from n room start room' → Walk R terms bits (p .bits) old (r + 1) (start + n) (from + e) room'
       unfolding joined
       walk-more old room room' start y big w laid =
           let k = fields in
           let ok = both-tests y in
           let fits = own-fits R p k r start n l (w .starts) q in
-          let shares = share-fits R p k nl qm (length bits) r from e l a d in
+          let shares = share-fits R p k terms (length bits) r from e l a d in
           let less = room-here r n e l q d in
           let inside : start + n ≤ length room = omega (arith, fits, k .cut .bits-high, w .same) in
           record {
             starts = ap₂ (λ (x y : ℕ). x + y) (w .starts) (own-is R p k r n q) ∙ sym (start-turn R (p .bits) r);
-            stands = share-turn R p k nl qm (length bits) r from e a d;
+            stands = share-turn R p k terms (length bits) r from e a d;
             parity = λ i u. last-or i r (omega arith) (λ b. w .parity i b) (λ b. ap (blockHasParity R (p .bits) t) b ∙ ok .0);
             sent = λ i u.
                 last-or i r (omega arith) (λ b. w .sent i b)
-                (λ b. ap (blockSent R (p .bits) t nl qm (length bits)) b ∙ ok .1 ∙ ap₂ (λ (x y : ℕ). take x (drop y bits)) (d ∙ ap given (sym b)) (a ∙ ap at (sym b)));
+                (λ b. ap (blockSent R (p .bits) t terms (length bits)) b ∙ ok .1 ∙ ap₂ (λ (x y : ℕ). take x (drop y bits)) (d ∙ ap given (sym b)) (a ∙ ap at (sym b)));
             front = laid-front bits room room' from n start (omega arith) inside laid ∙ rw (add-one r) (ap₂ (λ (x y : List ℕ). x ++ y) (w .front) own-here);
             same = laid .len ∙ w .same;
           }
 
   -- ---- after the last block
 
-  module _ (old room : List ℕ) (r start from : ℕ) (end : r ≡ p .blocks) (w : Walk R nl qm bits (p .bits) old r start from room) where
+  module _ (old room : List ℕ) (r start from : ℕ) (end : r ≡ p .blocks) (w : Walk R terms bits (p .bits) old r start from room) where
     abbrev rest : List ℕ
     rest = drop from bits
 
     rest-is : from ≡ at (blocks R (p .bits))
     rest-is = w .stands ∙ ap at (end ∙ fields .blocks-is)
 
-    goal-rest : drop (shareStart nl qm (length bits) (blocks R (p .bits)) (blocks R (p .bits))) bits ≡ drop from bits
+    goal-rest : drop (shareStart terms (length bits) (blocks R (p .bits)) (blocks R (p .bits))) bits ≡ drop from bits
     unfolding shareStart
     goal-rest = ap (λ (x : ℕ). drop x bits) (sym rest-is)
 
-    count-is : length bits - shareStart nl qm (length bits) (blocks R (p .bits)) (blocks R (p .bits)) ≡ length rest
+    count-is : length bits - shareStart terms (length bits) (blocks R (p .bits)) (blocks R (p .bits)) ≡ length rest
     unfolding shareStart
     count-is = ap (λ (x : ℕ). length bits - x) (sym rest-is) ∙ sym (length-drop from bits)
 
-    pub rest-other : someOver 0 rest ≡ true → radioBits R (p .bits) t nl qm (length bits) ≡ bits → ⊥
+    pub rest-other : someOver 0 rest ≡ true → radioBits R (p .bits) t terms (length bits) ≡ bits → ⊥
     rest-other y whole =
         let zeros : rest ≡ replicate (length rest) 0 =
-        sym goal-rest ∙ rest-sent R (p .bits) nl qm bits room-everywhere t whole ∙ ap (λ (n : ℕ). replicate n 0) count-is in
+        sym goal-rest ∙ rest-sent R (p .bits) terms bits room-everywhere t whole ∙ ap (λ (n : ℕ). replicate n 0) count-is in
         true≢false (sym y ∙ ap (someOver 0) zeros ∙ zeros-over (length rest))
 
     pub walk-done : someOver 0 rest ≡ false
-        → (someWithoutParity R (p .bits) t ≡ false) × (radioBits R (p .bits) t nl qm (length bits) ≡ bits) × (take (p .bits) room ≡ t)
+        → (someWithoutParity R (p .bits) t ≡ false) × (radioBits R (p .bits) t terms (length bits) ≡ bits) × (take (p .bits) room ≡ t)
     unfolding someWithoutParity gathered shareStart ownStart
     walk-done y =
         let k = fields in
         let c = blocks R (p .bits) in
         let all : start ≡ p .bits = w .starts ∙ ap (ownStart R (p .bits)) (end ∙ k .blocks-is) ∙ k .cut .own-sum in (
           any-none c (λ i. not (blockHasParity R (p .bits) t i)) (λ i u. ap not (w .parity i (omega (arith, k .blocks-is, end)))),
-          all-sent R (p .bits) nl qm bits room-everywhere t (λ i u. w .sent i (omega (arith, k .blocks-is, end)))
+          all-sent R (p .bits) terms bits room-everywhere t (λ i u. w .sent i (omega (arith, k .blocks-is, end)))
               (goal-rest ∙ zeros-of rest y ∙ ap (λ (n : ℕ). replicate n 0) (sym count-is)),
-          ap (λ (x : ℕ). take x room) (sym all) ∙ w .front ∙ ap (λ (n : ℕ). joined n (ownReceived R (p .bits) nl qm bits)) (end ∙ k .blocks-is),
+          ap (λ (x : ℕ). take x room) (sym all) ∙ w .front ∙ ap (λ (n : ℕ). joined n (ownReceived R (p .bits) terms bits)) (end ∙ k .blocks-is),
         )

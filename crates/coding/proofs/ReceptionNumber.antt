@@ -10,22 +10,25 @@ use lib.ListN.{length, drop}
 use Rattle.bits.specs.Bits.{someOver}
 use Rattle.bits.specs.Numbers.{answered}
 use Rattle.bits.specs.declared.number.Written.{Written}
+use Rattle.bits.specs.declared.count.Terms.{Terms}
 use Rattle.bits.proofs.Answers.{applies, passes, passed, none-left, first-part, Refusals, last-part, when-done, when-refused}
 use Rattle.bits.proofs.Over.{over-none-bits}
 use Rattle.bits.proofs.Ranges.{equal-or}
-use Rattle.profile.specs.Plan.{blockBits, blocks}
-use Rattle.profile.specs.Promises.{judged, planNumber}
+use Rattle.profile.specs.Promises.{judged}
 use Rattle.profile.proofs.Answers.{judged-first, judged-passed}
-use Rattle.profile.proofs.Plans.{plan-passed, plan-cut}
+use Rattle.cutting.specs.Plan.{blockBits, blocks}
+use Rattle.cutting.specs.Promises.{planNumber}
+use Rattle.cutting.proofs.Plans.{plan-passed, plan-cut}
 use Rattle.coding.specs.Allocation.{misallocated}
 use Rattle.coding.specs.Receiving.{someSentAs, receivedBlock, someWithoutRoom}
 use Rattle.coding.specs.Promises.{requestConditions, notOctets, receiveNumber, Received}
-use Rattle.coding.specs.steps.Sending.{requestNumber, Allocated}
-use Rattle.coding.specs.steps.Receiving.{octetsOf, receptionNumber, Receivable, Decided}
+use Rattle.coding.specs.steps.Numbers.{requestNumber, octetsOf, receptionNumber}
+use Rattle.coding.specs.steps.Shares.{Allocated}
+use Rattle.coding.specs.steps.Receiving.{Receivable, Decided}
 use Rattle.coding.proofs.Shares.{allocated}
 use Rattle.coding.proofs.RequestNumber.{request-passed}
 
-module _ (R : List ℕ) (a nl qm : ℕ) (bits : List ℕ) (room : ℕ) where
+module _ (R : List ℕ) (a : ℕ) (terms : Terms) (bits : List ℕ) (room : ℕ) where
   abbrev g : ℕ
   g = length bits
 
@@ -34,17 +37,17 @@ module _ (R : List ℕ) (a nl qm : ℕ) (bits : List ℕ) (room : ℕ) where
 
   -- all of requestNumber, for a block of a / 8 octets
   first : List (ℕ × Bool)
-  first = requestConditions R (notOctets a) (a / 8) nl qm g (a / 8) room
+  first = requestConditions R (notOctets a) (a / 8) terms g (a / 8) room
 
   last : List (ℕ × Bool)
-  last = (12, someOver 1 bits) ∷ (13, someWithoutRoom R (a / 8) nl qm g) ∷ []
+  last = (12, someOver 1 bits) ∷ (13, someWithoutRoom R (a / 8) terms g) ∷ []
 
-  in-parts : receptionNumber R a nl qm bits room ≡ answered (first ++ last)
+  in-parts : receptionNumber R a terms bits room ≡ answered (first ++ last)
   unfolding receptionNumber first last
   in-parts = refl
 
   -- where a is no whole number of octets, 7 is answered in both
-  request-is : requestNumber R o nl qm g o room ≡ answered first
+  request-is : requestNumber R o terms g o room ≡ answered first
   unfolding requestNumber first octetsOf notOctets
   request-is =
       equal-or (a % 8) 0
@@ -53,16 +56,16 @@ module _ (R : List ℕ) (a nl qm : ℕ) (bits : List ℕ) (room : ℕ) where
       (λ e. rw (ne-eqb (a % 8) 0 n) (judged-passed R _ e ∙ applies 7 _ refl ∙ sym (judged-passed R _ e ∙ applies 7 _ refl)))
       (λ e. rw (ne-eqb (a % 8) 0 n) (judged-first R _ e ∙ sym (judged-first R _ e))))
 
-  pub reception-first : (requestNumber R o nl qm g o room ≡ 0 → ⊥) → requestNumber R o nl qm g o room ≡ receptionNumber R a nl qm bits room
+  pub reception-first : (requestNumber R o terms g o room ≡ 0 → ⊥) → requestNumber R o terms g o room ≡ receptionNumber R a terms bits room
   reception-first n = request-is ∙ sym (in-parts ∙ first-part first last (λ z. n (request-is ∙ z)))
 
-  pub reception-last : requestNumber R o nl qm g o room ≡ 0 → receptionNumber R a nl qm bits room ≡ answered ((12, someOver 1 bits) ∷ (13, someWithoutRoom R (a / 8) nl qm g) ∷ [])
+  pub reception-last : requestNumber R o terms g o room ≡ 0 → receptionNumber R a terms bits room ≡ answered ((12, someOver 1 bits) ∷ (13, someWithoutRoom R (a / 8) terms g) ∷ [])
   unfolding first last Refusals
   reception-last e = in-parts ∙ last-part first last tt (sym request-is ∙ e)
 
-  module _ (e : requestNumber R o nl qm g o room ≡ 0) where
-    abbrev ok : (planNumber R o ≡ 0) × (misallocated nl qm g ≡ false) × (o ≤ room)
-    ok = request-passed R o nl qm g o room e
+  module _ (e : requestNumber R o terms g o room ≡ 0) where
+    abbrev ok : (planNumber R o ≡ 0) × (misallocated terms g ≡ false) × (o ≤ room)
+    ok = request-passed R o terms g o room e
 
     pub octets-are : o ≡ a / 8
     unfolding octetsOf
@@ -73,33 +76,33 @@ module _ (R : List ℕ) (a nl qm : ℕ) (bits : List ℕ) (room : ℕ) where
         let none : o ≡ 0 = rw (ne-eqb (a % 8) 0 n) in
         absurd (omega (arith, none, plan-passed R o (ok .0) .1)))
 
-    pub reception-allocated : (planNumber R o ≡ 0) × Allocated nl qm g (blocks R (blockBits o))
-    reception-allocated = (ok .0, allocated nl qm g (blocks R (blockBits o)) (ok .1) (omega (arith, plan-cut R o (ok .0) .some)))
+    pub reception-allocated : (planNumber R o ≡ 0) × Allocated terms g (blocks R (blockBits o))
+    reception-allocated = (ok .0, allocated terms g (blocks R (blockBits o)) (ok .1) (omega (arith, plan-cut R o (ok .0) .some)))
 
-    pub reception-twelve : someOver 1 bits ≡ true → 12 ≡ receptionNumber R a nl qm bits room
+    pub reception-twelve : someOver 1 bits ≡ true → 12 ≡ receptionNumber R a terms bits room
     reception-twelve t = sym (reception-last e ∙ applies 12 _ t)
 
     module _ (single : someOver 1 bits ≡ false) where
-      from-last : receptionNumber R a nl qm bits room ≡ answered ((13, someWithoutRoom R o nl qm g) ∷ [])
+      from-last : receptionNumber R a terms bits room ≡ answered ((13, someWithoutRoom R o terms g) ∷ [])
       from-last =
-          reception-last e ∙ passes 12 ((13, someWithoutRoom R (a / 8) nl qm g) ∷ []) single
-          ∙ ap (λ (n : ℕ). answered ((13, someWithoutRoom R n nl qm g) ∷ [])) (sym octets-are)
+          reception-last e ∙ passes 12 ((13, someWithoutRoom R (a / 8) terms g) ∷ []) single
+          ∙ ap (λ (n : ℕ). answered ((13, someWithoutRoom R n terms g) ∷ [])) (sym octets-are)
 
-      pub reception-thirteen : someWithoutRoom R o nl qm g ≡ true → 13 ≡ receptionNumber R a nl qm bits room
+      pub reception-thirteen : someWithoutRoom R o terms g ≡ true → 13 ≡ receptionNumber R a terms bits room
       reception-thirteen t = sym (from-last ∙ applies 13 [] t)
 
-      pub reception-done : someWithoutRoom R o nl qm g ≡ false → 0 ≡ receptionNumber R a nl qm bits room
+      pub reception-done : someWithoutRoom R o terms g ≡ false → 0 ≡ receptionNumber R a terms bits room
       reception-done t = sym (from-last ∙ passes 13 [] t ∙ none-left)
 
   -- what is known of received bits that pass
-  pub reception-passed : receptionNumber R a nl qm bits room ≡ 0 → Receivable R (a / 8) nl qm bits × (a / 8 ≤ room)
+  pub reception-passed : receptionNumber R a terms bits room ≡ 0 → Receivable R (a / 8) terms bits × (a / 8 ≤ room)
   reception-passed z =
-      equal-or (requestNumber R o nl qm g o room) 0
+      equal-or (requestNumber R o terms g o room) 0
       (λ e.
       let t = reception-allocated e in
-      let l13 : List (ℕ × Bool) = (13, someWithoutRoom R (a / 8) nl qm g) ∷ [] in
+      let l13 : List (ℕ × Bool) = (13, someWithoutRoom R (a / 8) terms g) ∷ [] in
       let p12 = passed 12 l13 (someOver 1 bits) (lit< tt) (sym (reception-last e) ∙ z) in
-      let p13 = passed 13 [] (someWithoutRoom R (a / 8) nl qm g) (lit< tt) (p12 .1) in
+      let p13 = passed 13 [] (someWithoutRoom R (a / 8) terms g) (lit< tt) (p12 .1) in
       let same = octets-are e in (
         record {
           taken = rw same at (t .0);
@@ -113,50 +116,50 @@ module _ (R : List ℕ) (a nl qm : ℕ) (bits : List ℕ) (room : ℕ) where
 
 -- ---- the whole promise
 
-module _ (R : List ℕ) (a nl qm : ℕ) (bits out : List ℕ) where
+module _ (R : List ℕ) (a : ℕ) (terms : Terms) (bits out : List ℕ) where
   abbrev before : ℕ
-  before = receptionNumber R a nl qm bits (length out)
+  before = receptionNumber R a terms bits (length out)
 
   abbrev tests : List (ℕ × Bool)
   tests =
-      requestConditions R (notOctets a) (a / 8) nl qm (length bits) (a / 8) (length out)
-      ++ ((12, someOver 1 bits) ∷ (13, someWithoutRoom R (a / 8) nl qm (length bits)) ∷ [])
+      requestConditions R (notOctets a) (a / 8) terms (length bits) (a / 8) (length out)
+      ++ ((12, someOver 1 bits) ∷ (13, someWithoutRoom R (a / 8) terms (length bits)) ∷ [])
 
-  pub receive-first : (before ≡ 0 → ⊥) → before ≡ receiveNumber R a nl qm bits (length out)
+  pub receive-first : (before ≡ 0 → ⊥) → before ≡ receiveNumber R a terms bits (length out)
   unfolding receptionNumber receiveNumber
-  receive-first n = sym (first-part tests ((14, not (someSentAs R (a / 8) nl qm bits)) ∷ []) n)
+  receive-first n = sym (first-part tests ((14, not (someSentAs R (a / 8) terms bits)) ∷ []) n)
 
-  receive-last : before ≡ 0 → receiveNumber R a nl qm bits (length out) ≡ answered ((14, not (someSentAs R (a / 8) nl qm bits)) ∷ [])
+  receive-last : before ≡ 0 → receiveNumber R a terms bits (length out) ≡ answered ((14, not (someSentAs R (a / 8) terms bits)) ∷ [])
   unfolding receptionNumber receiveNumber Refusals
-  receive-last e = last-part tests ((14, not (someSentAs R (a / 8) nl qm bits)) ∷ []) tt e
+  receive-last e = last-part tests ((14, not (someSentAs R (a / 8) terms bits)) ∷ []) tt e
 
-  pub receive-refused : (n : ℕ) → n ≡ receiveNumber R a nl qm bits (length out) → (n ≡ 0 → ⊥) → Received R a nl qm bits out (record { number = n; count = 0 }) out
+  pub receive-refused : (n : ℕ) → n ≡ receiveNumber R a terms bits (length out) → (n ≡ 0 → ⊥) → Received R a terms bits out (record { number = n; count = 0 }) out
   receive-refused n found h =
-      let refused : receiveNumber R a nl qm bits (length out) ≡ 0 → ⊥ = λ z. h (found ∙ z) in
+      let refused : receiveNumber R a terms bits (length out) ≡ 0 → ⊥ = λ z. h (found ∙ z) in
       record {
         number = found;
         count = sym (when-refused _ (a / 8) 0 refused);
-        output = sym (when-refused _ (receivedBlock R (a / 8) nl qm bits ++ drop (a / 8) out) out refused);
+        output = sym (when-refused _ (receivedBlock R (a / 8) terms bits ++ drop (a / 8) out) out refused);
       }
 
-  pub receive-decided : before ≡ 0 → (w : Written) (out' : List ℕ) → Decided R (a / 8) nl qm bits out w out' → Received R a nl qm bits out w out'
-  receive-decided e w out' d = by-value (someSentAs R (a / 8) nl qm bits) refl
+  pub receive-decided : before ≡ 0 → (w : Written) (out' : List ℕ) → Decided R (a / 8) terms bits out w out' → Received R a terms bits out w out'
+  receive-decided e w out' d = by-value (someSentAs R (a / 8) terms bits) refl
     where
-      by-value : (b : Bool) → someSentAs R (a / 8) nl qm bits ≡ b → Received R a nl qm bits out w out'
+      by-value : (b : Bool) → someSentAs R (a / 8) terms bits ≡ b → Received R a terms bits out w out'
       by-value true q =
           let x = d .found q in
-          let n : receiveNumber R a nl qm bits (length out) ≡ 0 = receive-last e ∙ passes 14 [] (ap not q) ∙ none-left in
+          let n : receiveNumber R a terms bits (length out) ≡ 0 = receive-last e ∙ passes 14 [] (ap not q) ∙ none-left in
           record {
             number = x .0 ∙ sym n;
             count = x .1 ∙ sym (when-done _ (a / 8) 0 n);
-            output = x .2 ∙ sym (when-done _ (receivedBlock R (a / 8) nl qm bits ++ drop (a / 8) out) out n);
+            output = x .2 ∙ sym (when-done _ (receivedBlock R (a / 8) terms bits ++ drop (a / 8) out) out n);
           }
       by-value false q =
           let x = d .unsent q in
-          let n : receiveNumber R a nl qm bits (length out) ≡ 14 = receive-last e ∙ applies 14 [] (ap not q) in
-          let some : receiveNumber R a nl qm bits (length out) ≡ 0 → ⊥ = λ z. omega arith in
+          let n : receiveNumber R a terms bits (length out) ≡ 14 = receive-last e ∙ applies 14 [] (ap not q) in
+          let some : receiveNumber R a terms bits (length out) ≡ 0 → ⊥ = λ z. omega arith in
           record {
             number = x .0 ∙ sym n;
             count = x .1 ∙ sym (when-refused _ (a / 8) 0 some);
-            output = x .2 ∙ sym (when-refused _ (receivedBlock R (a / 8) nl qm bits ++ drop (a / 8) out) out some);
+            output = x .2 ∙ sym (when-refused _ (receivedBlock R (a / 8) terms bits ++ drop (a / 8) out) out some);
           }

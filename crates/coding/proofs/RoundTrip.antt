@@ -2,44 +2,45 @@
 use mathlib.Core.Path.{_≡_, refl, sym, ap, _∙_, subst}
 use mathlib.Core.Bool.{Bool, true, false, cond, not}
 use mathlib.Core.List.{List, [], _∷_, _++_}
-use Prim.Native.Nat.{ℕ, zero, suc, _+_, _-_, _*_, _/_, _%_, _^_, _≤_, _<_}
+use Prim.Native.Nat.{ℕ, zero, suc, _-_, _*_, _/_, _%_, _^_, _≤_, _<_}
 use native.Mathlib.Omega.{arith}
 use borrow.Author.Tests.{le-leb, eq-eqb, eqb-false}
 use lib.Dec.{eqb, lit<}
 use lib.ListN.{length, getD, take, drop, replicate, length-append, length-replicate}
 use lib.Seq.{take-at}
-use Rattle.bits.specs.Bits.{AreBits, AreOctets, someOver, digits}
+use Rattle.bits.specs.Bits.{AreBits, AreOctets, someOver, digits, withFiller}
 use Rattle.bits.specs.Numbers.{answered}
-use Rattle.bits.specs.Ranges.{sumBelow, firstBelow}
+use Rattle.bits.specs.Ranges.{sumBelow, firstBelow, within, listBelow}
 use Rattle.bits.specs.declared.number.Written.{Written}
+use Rattle.bits.specs.declared.count.Terms.{Terms}
 use Rattle.bits.proofs.Answers.{applies, passes, passed, none-left, Refusals, last-part, when-done, when-refused}
 use Rattle.bits.proofs.Digits.{digits-bits}
 use Rattle.bits.proofs.Lists.{bits-append, bits-take, bits-drop, bits-zeros}
 use Rattle.bits.proofs.Over.{bits-not-over}
 use Rattle.bits.proofs.Ranges.{equal-or}
 use Rattle.bits.proofs.Sums.{sum-same}
-use Rattle.profile.specs.Record.{kb, m, z, table, within}
-use Rattle.profile.specs.Plan.{blockBits, blocks, ownBits, sizeIndex, places}
-use Rattle.profile.proofs.Plans.{plan-passed, plan-cut}
+use Rattle.bits.proofs.Listed.{length-list}
+use Rattle.profile.specs.Record.{z, rows, columns, table}
+use Rattle.cutting.specs.Plan.{blockBits, blocks, ownBits, sizeIndex, places}
+use Rattle.cutting.specs.Transport.{transport}
+use Rattle.cutting.specs.Cutting.{ownStart, own, systematic}
+use Rattle.cutting.proofs.Plans.{plan-passed, plan-cut}
+use Rattle.cutting.proofs.Transported.{transport-bits}
 use Rattle.parity.specs.Coded.{withParity, checksWith, coded}
-use Rattle.coding.specs.Transport.{transport}
-use Rattle.coding.specs.Cutting.{ownStart, own, withFiller, systematic}
+use Rattle.matching.specs.Matching.{kept, matched}
 use Rattle.coding.specs.Blocks.{codedBlock, someWithoutParity}
 use Rattle.coding.specs.Allocation.{share}
-use Rattle.coding.specs.Matching.{kept, listBelow, matched}
 use Rattle.coding.specs.Joining.{blockSent, joined, padded, radioBits}
 use Rattle.coding.specs.Receiving.{someSentAs, receivedBlock, someWithoutRoom}
 use Rattle.coding.specs.Promises.{requestConditions, sendNumber, notOctets, receiveNumber, Sent, Received}
 use Rattle.coding.specs.RoundTrip.{Roomy, NoneSentAs}
-use Rattle.coding.specs.steps.Sending.{requestNumber}
+use Rattle.coding.specs.steps.Numbers.{requestNumber}
 use Rattle.coding.specs.steps.Receiving.{Receivable, Decided}
 use Rattle.coding.proofs.Answers.{send-first, send-last}
 use Rattle.coding.proofs.Joining.{length-joined, joined-bits}
-use Rattle.coding.proofs.Places.{length-list}
 use Rattle.coding.proofs.Received.{sent-as-is, sent-as-of, block-only, some-from, received-is, received-sent, received-length, received-octets}
 use Rattle.coding.proofs.Shares.{shares-fit, allocated}
 use Rattle.coding.proofs.RequestNumber.{request-none}
-use Rattle.coding.proofs.Transported.{transport-bits}
 
 -- ---- what is sent are G bits, of any block and in any allocation
 
@@ -86,11 +87,11 @@ matched-bits : (s : List ℕ) (e : ℕ) → AreMarks s → AreBits (matched s e)
 unfolding matched
 matched-bits s e h = list-bits e (λ k. getD (kept s) (k % length (kept s)) 0) (λ k. kept-bits s h (k % length (kept s)))
 
-coded-marks : (T : List ℕ) (kb m z : ℕ) (sys : List ℕ) → AreMarks sys → AreMarks (coded T kb m z sys)
+coded-marks : (T : List ℕ) (rows columns z : ℕ) (sys : List ℕ) → AreMarks sys → AreMarks (coded T rows columns z sys)
 unfolding coded withParity
-coded-marks T kb m z sys h =
-    let n = firstBelow (2 ^ (m * z)) (checksWith T kb m z sys) in
-    marks-append sys (digits (m * z) n) h (marks-bits (digits (m * z) n) (digits-bits (m * z) n))
+coded-marks T rows columns z sys h =
+    let n = firstBelow (2 ^ (rows * z)) (checksWith T rows columns z sys) in
+    marks-append sys (digits (rows * z) n) h (marks-bits (digits (rows * z) n) (digits-bits (rows * z) n))
 
 own-bits : (R : List ℕ) (b : ℕ) (bits : List ℕ) (r : ℕ) → AreBits bits → AreBits (own R b bits r)
 unfolding own
@@ -100,31 +101,31 @@ filled-marks : (n : ℕ) (mine : List ℕ) → AreBits mine → AreMarks (withFi
 unfolding withFiller
 filled-marks n mine h = marks-append mine (replicate (n - length mine) 2) (marks-bits mine h) (marks-filler (n - length mine))
 
-block-bits : (R : List ℕ) (b : ℕ) (bits : List ℕ) (nl qm g r : ℕ) → AreBits bits → AreBits (blockSent R b bits nl qm g r)
+block-bits : (R : List ℕ) (b : ℕ) (bits : List ℕ) (terms : Terms) (g r : ℕ) → AreBits bits → AreBits (blockSent R b bits terms g r)
 unfolding blockSent codedBlock systematic
-block-bits R b bits nl qm g r h =
+block-bits R b bits terms g r h =
     let i = sizeIndex R b in
-    matched-bits (codedBlock R b bits r) (share nl qm g (blocks R b) r .0)
-    (coded-marks (table R i) (kb R) (m R) (z R i) (withFiller (places R b) (own R b bits r)) (filled-marks (places R b) (own R b bits r) (own-bits R b bits r h)))
+    matched-bits (codedBlock R b bits r) (share terms g (blocks R b) r .0)
+    (coded-marks (table R i) (rows R) (columns R) (z R i) (withFiller (places R b) (own R b bits r)) (filled-marks (places R b) (own R b bits r) (own-bits R b bits r h)))
 
-pub sent-bits : (R : List ℕ) (b : ℕ) (bits : List ℕ) (nl qm g : ℕ) → AreBits bits → AreBits (radioBits R b bits nl qm g)
+pub sent-bits : (R : List ℕ) (b : ℕ) (bits : List ℕ) (terms : Terms) (g : ℕ) → AreBits bits → AreBits (radioBits R b bits terms g)
 unfolding radioBits padded
-sent-bits R b bits nl qm g h =
+sent-bits R b bits terms g h =
     let c = blocks R b in
-    let f = blockSent R b bits nl qm g in
+    let f = blockSent R b bits terms g in
     bits-append (joined c f) (replicate (g - length (joined c f)) 0)
-    (joined-bits f c (λ r l. block-bits R b bits nl qm g r h)) (bits-zeros (g - length (joined c f)))
+    (joined-bits f c (λ r l. block-bits R b bits terms g r h)) (bits-zeros (g - length (joined c f)))
 
-pub sent-length : (R : List ℕ) (b : ℕ) (bits : List ℕ) (nl qm g : ℕ) → length (radioBits R b bits nl qm g) ≡ g
+pub sent-length : (R : List ℕ) (b : ℕ) (bits : List ℕ) (terms : Terms) (g : ℕ) → length (radioBits R b bits terms g) ≡ g
 unfolding radioBits padded blockSent matched
-sent-length R b bits nl qm g =
+sent-length R b bits terms g =
     let c = blocks R b in
-    let f = blockSent R b bits nl qm g in
-    let given : ℕ → ℕ = λ r. share nl qm g c r .0 in
+    let f = blockSent R b bits terms g in
+    let given : ℕ → ℕ = λ r. share terms g c r .0 in
     let front : length (joined c f) ≡ sumBelow c given =
-    length-joined f c ∙ sum-same c (λ r. length (f r)) given (λ r l. length-list (share nl qm g c r .0) (λ k. getD (kept (codedBlock R b bits r)) (k % length (kept (codedBlock R b bits r))) 0)) in
+    length-joined f c ∙ sum-same c (λ r. length (f r)) given (λ r l. length-list (share terms g c r .0) (λ k. getD (kept (codedBlock R b bits r)) (k % length (kept (codedBlock R b bits r))) 0)) in
     length-append (joined c f) (replicate (g - length (joined c f)) 0)
-    ∙ omega (arith, front, shares-fit nl qm g c, length-replicate {A = ℕ} (g - length (joined c f)) 0)
+    ∙ omega (arith, front, shares-fit terms g c, length-replicate {A = ℕ} (g - length (joined c f)) 0)
 
 inside : (n : ℕ) → 1 ≤ n → n ≤ 2048 → within 1 2048 n ≡ true
 inside n low high = rw (le-leb 1 n low, le-leb n 2048 high)
@@ -132,91 +133,91 @@ inside n low high = rw (le-leb 1 n low, le-leb n 2048 high)
 -- ---- what an accepted call of `send` has passed, and what it left in front
 
 -- what a transport block is sent as, and whether it cannot be
-abbrev radio : List ℕ → List ℕ → ℕ → ℕ → ℕ → List ℕ
+abbrev radio : List ℕ → List ℕ → Terms → ℕ → List ℕ
 radio R block = radioBits R (blockBits (length block)) (transport block)
 
 abbrev unsendable : List ℕ → List ℕ → Bool
 unsendable R block = someWithoutParity R (blockBits (length block)) (transport block)
 
-radio-length : (R block : List ℕ) (nl qm g : ℕ) → length (radio R block nl qm g) ≡ g
+radio-length : (R block : List ℕ) (terms : Terms) (g : ℕ) → length (radio R block terms g) ≡ g
 radio-length R block = sent-length R (blockBits (length block)) (transport block)
 
-send-passed : (R block : List ℕ) (nl qm g : ℕ) (out : List ℕ) → sendNumber R block nl qm g (length out) ≡ 0 → unsendable R block ≡ false
-send-passed R block nl qm g out e =
-    equal-or (requestNumber R (length block) nl qm g g (length out)) 0
-    (λ t. passed 15 [] (unsendable R block) (lit< tt) (sym (send-last R block nl qm g out t) ∙ e) .0)
-    (λ n. absurd (n (send-first R block nl qm g out n ∙ e)))
+send-passed : (R block : List ℕ) (terms : Terms) (g : ℕ) (out : List ℕ) → sendNumber R block terms g (length out) ≡ 0 → unsendable R block ≡ false
+send-passed R block terms g out e =
+    equal-or (requestNumber R (length block) terms g g (length out)) 0
+    (λ t. passed 15 [] (unsendable R block) (lit< tt) (sym (send-last R block terms g out t) ∙ e) .0)
+    (λ n. absurd (n (send-first R block terms g out n ∙ e)))
 
-module _ {R block : List ℕ} {nl qm g : ℕ} {out : List ℕ} {r : Written} {o : List ℕ} (s : Sent R block nl qm g out r o) (done : r .number ≡ 0) where
-  pub sent-front : take g o ≡ radioBits R (blockBits (length block)) (transport block) nl qm g
+module _ {R block : List ℕ} {terms : Terms} {g : ℕ} {out : List ℕ} {r : Written} {o : List ℕ} (s : Sent R block terms g out r o) (done : r .number ≡ 0) where
+  pub sent-front : take g o ≡ radioBits R (blockBits (length block)) (transport block) terms g
   sent-front =
-      ap (take g) (s .output ∙ when-done (sendNumber R block nl qm g (length out)) (radio R block nl qm g ++ drop g out) out (sym (s .number) ∙ done))
-      ∙ take-at (radio R block nl qm g) (drop g out) g (radio-length R block nl qm g)
+      ap (take g) (s .output ∙ when-done (sendNumber R block terms g (length out)) (radio R block terms g ++ drop g out) out (sym (s .number) ∙ done))
+      ∙ take-at (radio R block terms g) (drop g out) g (radio-length R block terms g)
 
   sent-parity : unsendable R block ≡ false
-  sent-parity = send-passed R block nl qm g out (sym (s .number) ∙ done)
+  sent-parity = send-passed R block terms g out (sym (s .number) ∙ done)
 
   -- so it is sent as what it left
   sent-size : length (take g o) ≡ g
-  sent-size = ap length sent-front ∙ radio-length R block nl qm g
+  sent-size = ap length sent-front ∙ radio-length R block terms g
 
-  sent-back : radio R block nl qm (length (take g o)) ≡ take g o
-  sent-back = ap (radio R block nl qm) sent-size ∙ sym sent-front
+  sent-back : radio R block terms (length (take g o)) ≡ take g o
+  sent-back = ap (radio R block terms) sent-size ∙ sym sent-front
 
   sent-single : AreBits (take g o)
   sent-single k =
-      subst (λ (l : List ℕ). getD l k 0 < 2) (sym sent-front) (sent-bits R (blockBits (length block)) (transport block) nl qm g (transport-bits block) k)
+      subst (λ (l : List ℕ). getD l k 0 < 2) (sym sent-front) (sent-bits R (blockBits (length block)) (transport block) terms g (transport-bits block) k)
 
 -- ---- a call of `send` that is done, into an output as long as the bits
 
-module _ (R block : List ℕ) (nl qm : ℕ) (bits : List ℕ) (h : Roomy R (length block) nl qm (length bits)) (parity : unsendable R block ≡ false) where
-  send-done : sendNumber R block nl qm (length bits) (length bits) ≡ 0
+module _ (R block : List ℕ) (terms : Terms) (bits : List ℕ) (h : Roomy R (length block) terms (length bits)) (parity : unsendable R block ≡ false) where
+  send-done : sendNumber R block terms (length bits) (length bits) ≡ 0
   unfolding requestNumber
   send-done =
       let octets = length block in
       let g = length bits in
       let p = plan-passed R octets (h .taken) in
-      let first : requestNumber R octets nl qm g g g ≡ 0 =
-      request-none R octets nl qm g g g (not (within 1 2048 octets)) (ap not (inside octets (p .1) (p .2))) (h .taken) (h .allocation) (h .enough) (omega arith) in
-      send-last R block nl qm g bits first ∙ passes 15 [] parity ∙ none-left
+      let first : requestNumber R octets terms g g g ≡ 0 =
+      request-none R octets terms g g g (not (within 1 2048 octets)) (ap not (inside octets (p .1) (p .2))) (h .taken) (h .allocation) (h .enough) (omega arith) in
+      send-last R block terms g bits first ∙ passes 15 [] parity ∙ none-left
 
-  sent-done : Sent R block nl qm (length bits) bits (record { number = 0; count = length bits }) (radio R block nl qm (length bits) ++ drop (length bits) bits)
+  sent-done : Sent R block terms (length bits) bits (record { number = 0; count = length bits }) (radio R block terms (length bits) ++ drop (length bits) bits)
   sent-done =
-      let n = sendNumber R block nl qm (length bits) (length bits) in
+      let n = sendNumber R block terms (length bits) (length bits) in
       record { number = sym send-done; count = sym (when-done n (length bits) 0 send-done); output = sym (when-done n _ bits send-done) }
 
 -- ---- received bits that no number before 14 refuses
 
-receivable : (R : List ℕ) (octets nl qm : ℕ) (bits : List ℕ) → Roomy R octets nl qm (length bits) → AreBits bits → Receivable R octets nl qm bits
-receivable R octets nl qm bits h single =
+receivable : (R : List ℕ) (octets : ℕ) (terms : Terms) (bits : List ℕ) → Roomy R octets terms (length bits) → AreBits bits → Receivable R octets terms bits
+receivable R octets terms bits h single =
     record {
       taken = h .taken;
-      allocated = allocated nl qm (length bits) (blocks R (blockBits octets)) (h .allocation) (plan-cut R octets (h .taken) .some);
+      allocated = allocated terms (length bits) (blocks R (blockBits octets)) (h .allocation) (plan-cut R octets (h .taken) .some);
       single = single;
       room = h .room;
     }
 
-reception-number : (R : List ℕ) (a nl qm : ℕ) (bits : List ℕ) (room : ℕ) → Roomy R (a / 8) nl qm (length bits) → a % 8 ≡ 0 → AreBits bits → a / 8 ≤ room
-    → receiveNumber R a nl qm bits room ≡ answered ((14, not (someSentAs R (a / 8) nl qm bits)) ∷ [])
+reception-number : (R : List ℕ) (a : ℕ) (terms : Terms) (bits : List ℕ) (room : ℕ) → Roomy R (a / 8) terms (length bits) → a % 8 ≡ 0 → AreBits bits → a / 8 ≤ room
+    → receiveNumber R a terms bits room ≡ answered ((14, not (someSentAs R (a / 8) terms bits)) ∷ [])
 unfolding receiveNumber notOctets Refusals
-reception-number R a nl qm bits room h whole single fits =
+reception-number R a terms bits room h whole single fits =
     let octets = a / 8 in
     let g = length bits in
     let p = plan-passed R octets (h .taken) in
     let seven : notOctets a ≡ false = rw (eq-eqb (a % 8) 0 whole, inside octets (p .1) (p .2)) in
-    let l14 : List (ℕ × Bool) = (14, not (someSentAs R octets nl qm bits)) ∷ [] in
-    let l13 : List (ℕ × Bool) = (13, someWithoutRoom R octets nl qm g) ∷ l14 in
+    let l14 : List (ℕ × Bool) = (14, not (someSentAs R octets terms bits)) ∷ [] in
+    let l13 : List (ℕ × Bool) = (13, someWithoutRoom R octets terms g) ∷ l14 in
     let l12 : List (ℕ × Bool) = (12, someOver 1 bits) ∷ l13 in
-    last-part (requestConditions R (notOctets a) octets nl qm g octets room) l12 tt
-    (request-none R octets nl qm g octets room (notOctets a) seven (h .taken) (h .allocation) (h .enough) fits)
+    last-part (requestConditions R (notOctets a) octets terms g octets room) l12 tt
+    (request-none R octets terms g octets room (notOctets a) seven (h .taken) (h .allocation) (h .enough) fits)
     ∙ passes 12 l13 (bits-not-over bits single) ∙ passes 13 l14 (h .room)
 
 -- what receiving promises of them: they were decided on
-decided-whole : {R : List ℕ} {a nl qm : ℕ} {bits buf : List ℕ} {r : Written} {buf' : List ℕ} → Received R a nl qm bits buf r buf'
-    → Roomy R (a / 8) nl qm (length bits) → a % 8 ≡ 0 → AreBits bits → a / 8 ≤ length buf → Decided R (a / 8) nl qm bits buf r buf'
-decided-whole {R} {a} {nl} {qm} {bits} {buf} {r} {buf'} v h whole single fits =
-    let n = receiveNumber R a nl qm bits (length buf) in
-    let is = reception-number R a nl qm bits (length buf) h whole single fits in
+decided-whole : {R : List ℕ} {a : ℕ} {terms : Terms} {bits buf : List ℕ} {r : Written} {buf' : List ℕ} → Received R a terms bits buf r buf'
+    → Roomy R (a / 8) terms (length bits) → a % 8 ≡ 0 → AreBits bits → a / 8 ≤ length buf → Decided R (a / 8) terms bits buf r buf'
+decided-whole {R} {a} {terms} {bits} {buf} {r} {buf'} v h whole single fits =
+    let n = receiveNumber R a terms bits (length buf) in
+    let is = reception-number R a terms bits (length buf) h whole single fits in
     record {
       found = λ e.
           let zero-is : n ≡ 0 = is ∙ passes 14 [] (ap not e) ∙ none-left in
@@ -227,78 +228,78 @@ decided-whole {R} {a} {nl} {qm} {bits} {buf} {r} {buf'} v h whole single fits =
           (v .number ∙ last, v .count ∙ when-refused n (a / 8) 0 refused, v .output ∙ when-refused n _ buf refused);
     }
 
-module _ {R : List ℕ} {octets nl qm : ℕ} {bits buf : List ℕ} {r : Written} {buf' : List ℕ} (h : Roomy R octets nl qm (length bits)) (single : AreBits bits)
-    (fits : octets ≤ length buf) (v : Received R (8 * octets) nl qm bits buf r buf') where
-  decided : Decided R octets nl qm bits buf r buf'
+module _ {R : List ℕ} {octets : ℕ} {terms : Terms} {bits buf : List ℕ} {r : Written} {buf' : List ℕ} (h : Roomy R octets terms (length bits)) (single : AreBits bits)
+    (fits : octets ≤ length buf) (v : Received R (8 * octets) terms bits buf r buf') where
+  decided : Decided R octets terms bits buf r buf'
   decided =
       let q : 8 * octets / 8 ≡ octets = omega arith in
-      subst (λ (n : ℕ). Decided R n nl qm bits buf r buf') q
-      (decided-whole v (subst (λ (n : ℕ). Roomy R n nl qm (length bits)) (sym q) h) (omega arith) single (omega arith))
+      subst (λ (n : ℕ). Decided R n terms bits buf r buf') q
+      (decided-whole v (subst (λ (n : ℕ). Roomy R n terms (length bits)) (sym q) h) (omega arith) single (omega arith))
 
   -- a block that is sent as the bits is what is received
-  back : (block : List ℕ) → AreOctets block → length block ≡ octets → unsendable R block ≡ false → radio R block nl qm (length bits) ≡ bits
+  back : (block : List ℕ) → AreOctets block → length block ≡ octets → unsendable R block ≡ false → radio R block terms (length bits) ≡ bits
       → (r .number ≡ 0) × (r .count ≡ octets) × (buf' ≡ block ++ drop octets buf)
   back block whole size parity is =
-      let H = receivable R octets nl qm bits h single in
-      let some = some-from R octets nl qm bits H block size whole (sent-as-of R nl qm bits block parity is) in
+      let H = receivable R octets terms bits h single in
+      let some = some-from R octets terms bits H block size whole (sent-as-of R terms bits block parity is) in
       let got = decided .found some in
-      let same-block : receivedBlock R octets nl qm bits ≡ block =
-      received-is R octets nl qm bits H some ∙ sym (block-only R octets nl qm bits H block size whole is) in
+      let same-block : receivedBlock R octets terms bits ≡ block =
+      received-is R octets terms bits H some ∙ sym (block-only R octets terms bits H block size whole is) in
       (got .0, got .1, got .2 ∙ ap (λ (l : List ℕ). l ++ drop octets buf) same-block)
 
 -- ---- the three sentences of the demand
 
 -- "Two different transport blocks are never sent as the same bits"
-pub sent-apart : {R block block' : List ℕ} {nl qm g : ℕ} {out : List ℕ} {r : Written} {o out' : List ℕ} {r' : Written} {o' : List ℕ}
-    → Roomy R (length block) nl qm g → AreOctets block → AreOctets block' → length block ≡ length block'
-    → Sent R block nl qm g out r o → r .number ≡ 0 → Sent R block' nl qm g out' r' o' → r' .number ≡ 0
+pub sent-apart : {R block block' : List ℕ} {terms : Terms} {g : ℕ} {out : List ℕ} {r : Written} {o out' : List ℕ} {r' : Written} {o' : List ℕ}
+    → Roomy R (length block) terms g → AreOctets block → AreOctets block' → length block ≡ length block'
+    → Sent R block terms g out r o → r .number ≡ 0 → Sent R block' terms g out' r' o' → r' .number ≡ 0
     → take g o ≡ take g o' → block ≡ block'
-sent-apart {R} {block} {block'} {nl} {qm} {g} {o = o} h whole whole' size s done s' done' e =
+sent-apart {R} {block} {block'} {terms} {g} {o = o} h whole whole' size s done s' done' e =
     let bits = take g o in
     let long : length bits ≡ g = sent-size s done in
-    let H = receivable R (length block) nl qm bits (subst (λ (n : ℕ). Roomy R (length block) nl qm n) (sym long) h) (sent-single s done) in
-    let there : radio R block' nl qm (length bits) ≡ bits = ap (radio R block' nl qm) long ∙ sym (sent-front s' done') ∙ sym e in
-    block-only R (length block) nl qm bits H block refl whole (sent-back s done)
-    ∙ sym (block-only R (length block) nl qm bits H block' (sym size) whole' there)
+    let H = receivable R (length block) terms bits (subst (λ (n : ℕ). Roomy R (length block) terms n) (sym long) h) (sent-single s done) in
+    let there : radio R block' terms (length bits) ≡ bits = ap (radio R block' terms) long ∙ sym (sent-front s' done') ∙ sym e in
+    block-only R (length block) terms bits H block refl whole (sent-back s done)
+    ∙ sym (block-only R (length block) terms bits H block' (sym size) whole' there)
 
 -- "receiving the sent bits returns the block"
-pub sent-returns : {R block : List ℕ} {nl qm g : ℕ} {out : List ℕ} {r : Written} {o buf : List ℕ} {r' : Written} {buf' : List ℕ}
-    → Roomy R (length block) nl qm g → AreOctets block → length block ≤ length buf
-    → Sent R block nl qm g out r o → r .number ≡ 0 → Received R (8 * length block) nl qm (take g o) buf r' buf'
+pub sent-returns : {R block : List ℕ} {terms : Terms} {g : ℕ} {out : List ℕ} {r : Written} {o buf : List ℕ} {r' : Written} {buf' : List ℕ}
+    → Roomy R (length block) terms g → AreOctets block → length block ≤ length buf
+    → Sent R block terms g out r o → r .number ≡ 0 → Received R (8 * length block) terms (take g o) buf r' buf'
     → (r' .number ≡ 0) × (r' .count ≡ length block) × (take (length block) buf' ≡ block) × (buf' ≡ block ++ drop (length block) buf)
-sent-returns {R} {block} {nl} {qm} {g} {o = o} {buf = buf} h whole fits s done v =
+sent-returns {R} {block} {terms} {g} {o = o} {buf = buf} h whole fits s done v =
     let bits = take g o in
-    let here = subst (λ (n : ℕ). Roomy R (length block) nl qm n) (sym (sent-size s done)) h in
+    let here = subst (λ (n : ℕ). Roomy R (length block) terms n) (sym (sent-size s done)) h in
     let is = sent-back s done in
     let got = back here (sent-single s done) fits v block whole refl (sent-parity s done) is in
     (got .0, got .1, ap (take (length block)) (got .2) ∙ take-at block (drop (length block) buf) (length block) refl, got .2)
 
 -- "and received noughts and ones, as many as the allocation gives, are refused as unsent exactly when no transport block of that length is
 -- sent as them, sending being that of the second demand"
-pub unsent-exactly : {R : List ℕ} {octets nl qm : ℕ} {bits buf : List ℕ} {r : Written} {buf' : List ℕ}
-    → Roomy R octets nl qm (length bits) → AreBits bits → octets ≤ length buf → Received R (8 * octets) nl qm bits buf r buf'
-    → (r .number ≡ 14 → NoneSentAs (λ block out r out'. Sent R block nl qm (length bits) out r out') octets bits)
-    × (NoneSentAs (λ block out r out'. Sent R block nl qm (length bits) out r out') octets bits → r .number ≡ 14)
-unsent-exactly {R} {octets} {nl} {qm} {bits} {buf} {r} h single fits v = (none, only)
+pub unsent-exactly : {R : List ℕ} {octets : ℕ} {terms : Terms} {bits buf : List ℕ} {r : Written} {buf' : List ℕ}
+    → Roomy R octets terms (length bits) → AreBits bits → octets ≤ length buf → Received R (8 * octets) terms bits buf r buf'
+    → (r .number ≡ 14 → NoneSentAs (λ block out r out'. Sent R block terms (length bits) out r out') octets bits)
+    × (NoneSentAs (λ block out r out'. Sent R block terms (length bits) out r out') octets bits → r .number ≡ 14)
+unsent-exactly {R} {octets} {terms} {bits} {buf} {r} h single fits v = (none, only)
   where
-    none : r .number ≡ 14 → NoneSentAs (λ block out r out'. Sent R block nl qm (length bits) out r out') octets bits
+    none : r .number ≡ 14 → NoneSentAs (λ block out r out'. Sent R block terms (length bits) out r out') octets bits
     none e block whole size out w out' s done is =
         let got = back h single fits v block whole size (sent-parity s done) (sym (sent-front s done) ∙ is) in
         omega (arith, got .0, e)
 
-    only : NoneSentAs (λ block out r out'. Sent R block nl qm (length bits) out r out') octets bits → r .number ≡ 14
-    only no-call = by-search (someSentAs R octets nl qm bits) refl
+    only : NoneSentAs (λ block out r out'. Sent R block terms (length bits) out r out') octets bits → r .number ≡ 14
+    only no-call = by-search (someSentAs R octets terms bits) refl
       where
-        H : Receivable R octets nl qm bits
-        H = receivable R octets nl qm bits h single
+        H : Receivable R octets terms bits
+        H = receivable R octets terms bits h single
 
-        by-search : (b : Bool) → someSentAs R octets nl qm bits ≡ b → r .number ≡ 14
+        by-search : (b : Bool) → someSentAs R octets terms bits ≡ b → r .number ≡ 14
         by-search false e = decided h single fits v .unsent e .0
         by-search true e =
-            let block = receivedBlock R octets nl qm bits in
-            let is = sent-as-is R nl qm bits block (received-sent R octets nl qm bits H e) in
-            let size = received-length R octets nl qm bits H in
-            let here = subst (λ (n : ℕ). Roomy R n nl qm (length bits)) (sym size) h in
+            let block = receivedBlock R octets terms bits in
+            let is = sent-as-is R terms bits block (received-sent R octets terms bits H e) in
+            let size = received-length R octets terms bits H in
+            let here = subst (λ (n : ℕ). Roomy R n terms (length bits)) (sym size) h in
             let g = length bits in
-            absurd (no-call block (received-octets R octets nl qm bits H) size bits _ _ (sent-done R block nl qm bits here (is .0)) refl
-            (take-at (radio R block nl qm g) (drop g bits) g (radio-length R block nl qm g) ∙ is .1))
+            absurd (no-call block (received-octets R octets terms bits H) size bits _ _ (sent-done R block terms bits here (is .0)) refl
+            (take-at (radio R block terms g) (drop g bits) g (radio-length R block terms g) ∙ is .1))

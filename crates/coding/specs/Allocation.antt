@@ -1,20 +1,20 @@
 -- Step 5 of document 01: the allocation, N_L, Q_m and G, and what each of c blocks is given of it.
 use mathlib.Core.Bool.{Bool, not, _||_}
-use Prim.Native.Nat.{ℕ, _*_, _/_, _%_}
+use Prim.Native.Nat.{ℕ, _/_, _%_}
 use lib.Dec.{eqb, ltb}
-use Rattle.bits.specs.Counts.{symbolPlacesOf, codedBitsOf}
+use Rattle.bits.specs.Counts.{usable, placeBits, symbolPlacesOf, codedBitsOf}
 use Rattle.bits.specs.declared.count.CodedBits.{CodedBits}
 use Rattle.bits.specs.declared.count.SymbolPlaces.{SymbolPlaces}
-use Rattle.profile.specs.Record.{within}
+use Rattle.bits.specs.declared.count.Terms.{Terms}
 
--- 8, "N_L, Q_m or G against step 5": "N_L is 1 to 4 and Q_m is 2, 4 or 6. G is a multiple of N_L·Q_m, from 0 to 65,536"
-unfoldable pub misallocated : ℕ → ℕ → ℕ → Bool
-misallocated nl qm g = not (within 1 4 nl) || not (eqb qm 2 || eqb qm 4 || eqb qm 6) || ltb 65536 g || not (eqb (g % (nl * qm)) 0)
+-- 8, "N_L, Q_m or G against step 5": what `usable` says of N_L and Q_m, and "G is a multiple of N_L·Q_m, from 0 to 65,536"
+unfoldable pub misallocated : Terms → ℕ → Bool
+misallocated terms g = not (usable terms) || ltb 65536 g || not (eqb (g % placeBits terms) 0)
 
 -- "G' = G/(N_L·Q_m)"
-unfoldable pub symbolPlaces : ℕ → ℕ → ℕ → SymbolPlaces
-symbolPlaces nl qm g = symbolPlacesOf nl qm (record { 0 = g })
+unfoldable pub symbolPlaces : Terms → ℕ → SymbolPlaces
+symbolPlaces terms g = symbolPlacesOf terms (record { 0 = g })
 
 -- "Every block is given E = N_L·Q_m·floor(G'/C) bits": block r's share. The index decides nothing here; a later request gives some blocks more.
-unfoldable pub share : ℕ → ℕ → ℕ → ℕ → ℕ → CodedBits
-share nl qm g c r = codedBitsOf nl qm (record { 0 = symbolPlaces nl qm g .0 / c })
+unfoldable pub share : Terms → ℕ → ℕ → ℕ → CodedBits
+share terms g c r = codedBitsOf terms (record { 0 = symbolPlaces terms g .0 / c })

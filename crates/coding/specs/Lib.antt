@@ -1,8 +1,5 @@
-pub mod Transport
-pub mod Cutting
 pub mod Blocks
 pub mod Allocation
-pub mod Matching
 pub mod Joining
 pub mod Receiving
 pub mod Promises

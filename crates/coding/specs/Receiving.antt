@@ -7,31 +7,32 @@ use lib.Dec.{ltb}
 use lib.ListN.{length}
 use Rattle.bits.specs.Bits.{same, digits, packed}
 use Rattle.bits.specs.Ranges.{anyBelow, firstBelow}
-use Rattle.profile.specs.Plan.{blockBits, blocks}
-use Rattle.coding.specs.Transport.{transport}
+use Rattle.bits.specs.declared.count.Terms.{Terms}
+use Rattle.cutting.specs.Plan.{blockBits, blocks}
+use Rattle.cutting.specs.Transport.{transport}
 use Rattle.coding.specs.Blocks.{someWithoutParity, sendable}
 use Rattle.coding.specs.Allocation.{share}
 use Rattle.coding.specs.Joining.{radioBits}
 
 -- a transport block is sent as these bits: it can be sent, and is sent so
-unfoldable pub sentAs : List ℕ → ℕ → ℕ → List ℕ → List ℕ → Bool
-sentAs R nl qm bits block =
+unfoldable pub sentAs : List ℕ → Terms → List ℕ → List ℕ → Bool
+sentAs R terms bits block =
     not (someWithoutParity R (blockBits (length block)) (transport block))
-    && same (radioBits R (blockBits (length block)) (transport block) nl qm (length bits)) bits
+    && same (radioBits R (blockBits (length block)) (transport block) terms (length bits)) bits
 
 -- the transport blocks of so many octets: the n-th, for n from 0 to 2^(8·octets) − 1, has the digits of n as its bits
 unfoldable pub nthBlock : ℕ → ℕ → List ℕ
 nthBlock octets n = packed octets (digits (8 * octets) n)
 
 -- "some transport block of that length" is sent as these bits
-unfoldable pub someSentAs : List ℕ → ℕ → ℕ → ℕ → List ℕ → Bool
-someSentAs R octets nl qm bits = anyBelow (2 ^ (8 * octets)) (λ n. sentAs R nl qm bits (nthBlock octets n))
+unfoldable pub someSentAs : List ℕ → ℕ → Terms → List ℕ → Bool
+someSentAs R octets terms bits = anyBelow (2 ^ (8 * octets)) (λ n. sentAs R terms bits (nthBlock octets n))
 
 -- "It then writes the octets": those of the first block that is sent as these bits; where every block has room there is one at most
-unfoldable pub receivedBlock : List ℕ → ℕ → ℕ → ℕ → List ℕ → List ℕ
-receivedBlock R octets nl qm bits = nthBlock octets (firstBelow (2 ^ (8 * octets)) (λ n. sentAs R nl qm bits (nthBlock octets n)))
+unfoldable pub receivedBlock : List ℕ → ℕ → Terms → List ℕ → List ℕ
+receivedBlock R octets terms bits = nthBlock octets (firstBelow (2 ^ (8 * octets)) (λ n. sentAs R terms bits (nthBlock octets n)))
 
 -- 13: "E below N in some block"
-unfoldable pub someWithoutRoom : List ℕ → ℕ → ℕ → ℕ → ℕ → Bool
-someWithoutRoom R octets nl qm g =
-    anyBelow (blocks R (blockBits octets)) (λ r. ltb (share nl qm g (blocks R (blockBits octets)) r .0) (sendable R (blockBits octets) r))
+unfoldable pub someWithoutRoom : List ℕ → ℕ → Terms → ℕ → Bool
+someWithoutRoom R octets terms g =
+    anyBelow (blocks R (blockBits octets)) (λ r. ltb (share terms g (blocks R (blockBits octets)) r .0) (sendable R (blockBits octets) r))

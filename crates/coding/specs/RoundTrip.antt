@@ -6,17 +6,18 @@ use Prim.Native.Nat.{ℕ}
 use lib.ListN.{length, take}
 use Rattle.bits.specs.Bits.{AreOctets}
 use Rattle.bits.specs.declared.number.Written.{Written}
-use Rattle.profile.specs.Promises.{planNumber}
+use Rattle.bits.specs.declared.count.Terms.{Terms}
+use Rattle.cutting.specs.Promises.{planNumber}
 use Rattle.coding.specs.Allocation.{misallocated}
 use Rattle.coding.specs.Receiving.{someWithoutRoom}
 use Rattle.coding.specs.Promises.{tooFewPlaces}
 
 -- "Take an accepted profile, block length and allocation in which every code block has room for all its coded bits that are not filler"
-pub record Roomy (R : List ℕ) (octets nl qm g : ℕ) : Type 0 where
+pub record Roomy (R : List ℕ) (octets : ℕ) (terms : Terms) (g : ℕ) : Type 0 where
   pub taken : planNumber R octets ≡ 0
-  pub allocation : misallocated nl qm g ≡ false
-  pub enough : tooFewPlaces R octets nl qm g ≡ false
-  pub room : someWithoutRoom R octets nl qm g ≡ false
+  pub allocation : misallocated terms g ≡ false
+  pub enough : tooFewPlaces R octets terms g ≡ false
+  pub room : someWithoutRoom R octets terms g ≡ false
 
 -- "no transport block of that length is sent as them": no call that keeps its promise answers 0 and leaves these bits in front. `promised` is
 -- what the call promises of a block, an output, its answer and the output after.

@@ -1,4 +1,6 @@
 -- What inner contracts cite; no reader of the promises needs it.
-pub mod Places
+pub mod Numbers
+pub mod Shares
+pub mod Blocks
 pub mod Sending
 pub mod Receiving

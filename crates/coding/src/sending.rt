@@ -1,25 +1,26 @@
 // Sending transport bits: every block tested for parity bits, then each block's bits straight into its own stretch of the output.
-use crate::allocation;
 use crate::blocks;
+use crate::inner;
 use bits::count::CodedBits;
+use bits::count::Terms;
 use bits::number::DONE;
 use bits::number::NO_PARITY;
 use bits::number::Written;
-use profile::Plan;
+use cutting::Plan;
 ghost use mathlib.Core.Path.{_≡_};
 ghost use mathlib.Core.Bool.{false, not};
 ghost use mathlib.Core.List.{_++_};
-ghost use Prim.Native.Nat.{_+_, _*_, _≤_};
+ghost use Prim.Native.Nat.{_≤_};
 ghost use lib.ListN.{length, drop, replicate};
-ghost use Rattle.profile.specs.Record.{kb, m};
-ghost use Rattle.profile.specs.Plan.{blocks};
+ghost use Rattle.cutting.specs.Plan.{blocks};
+ghost use Rattle.cutting.specs.steps.Plans.{Ready};
 ghost use Rattle.coding.specs.Blocks.{someWithoutParity};
-ghost use Rattle.coding.specs.Joining.{blockSent, joined};
-ghost use Rattle.coding.specs.steps.Sending.{Ready, Allocated, BitsSent};
+ghost use Rattle.coding.specs.steps.Blocks.{Fits};
+ghost use Rattle.coding.specs.steps.Sending.{Sendable, BlocksSent, BitsSent};
 
 // Whether every block has parity bits with which it checks.
 fn all_have_parity(profile: &[u8], plan: Plan, bits: &[u8], word: &mut [u8]) -> bool
-    requires { ⌜ Ready (now profile) (now bits) plan × (length (now word) ≡ (kb (now profile) + m (now profile)) * plan .z) ⌝ }
+    requires { ⌜ Ready (now profile) (now bits) plan × Fits (now profile) plan (now word) ⌝ }
     ensures { λ r. ⌜ r ≡ not (someWithoutParity (now (profile .entry)) (plan .bits) (now (bits .entry))) ⌝ }
 {
     let b = plan.bits;
@@ -27,7 +28,7 @@ fn all_have_parity(profile: &[u8], plan: Plan, bits: &[u8], word: &mut [u8]) -> 
     let mut start = 0;
     let mut r = 0;
     while r < c {
-        let own = profile::inner::own_bits(b, c, r);
+        let own = cutting::inner::own_bits(b, c, r);
         if !blocks::has_parity(profile, plan, bits, start, own, word) {
             return false;
         }
@@ -42,14 +43,13 @@ fn send_blocks(
     profile: &[u8],
     plan: Plan,
     bits: &[u8],
-    nl: usize,
-    qm: usize,
+    terms: Terms,
     g: CodedBits,
     word: &mut [u8],
     out: &mut [u8],
 ) -> usize
-    requires { ⌜ Ready (now profile) (now bits) plan × (length (now word) ≡ (kb (now profile) + m (now profile)) * plan .z) × Allocated nl qm (g .0) (plan .blocks) × (g .0 ≤ length (now out)) × (someWithoutParity (now profile) (plan .bits) (now bits) ≡ false) ⌝ }
-    ensures { λ at. ⌜ (at ≤ g .0) × (length (joined (blocks (now (profile .entry)) (plan .bits)) (blockSent (now (profile .entry)) (plan .bits) (now (bits .entry)) nl qm (g .0))) ≡ at) × (now (out .exit) ≡ joined (blocks (now (profile .entry)) (plan .bits)) (blockSent (now (profile .entry)) (plan .bits) (now (bits .entry)) nl qm (g .0)) ++ drop at (now (out .entry))) ⌝ }
+    requires { ⌜ Sendable (now profile) plan (now bits) terms (g .0) (now out) × Fits (now profile) plan (now word) × (someWithoutParity (now profile) (plan .bits) (now bits) ≡ false) ⌝ }
+    ensures { λ at. ⌜ BlocksSent (now (profile .entry)) (plan .bits) (now (bits .entry)) terms (g .0) (now (out .entry)) at (now (out .exit)) ⌝ }
 {
     let b = plan.bits;
     let c = plan.blocks;
@@ -57,8 +57,8 @@ fn send_blocks(
     let mut at = 0;
     let mut r = 0;
     while r < c {
-        let own = profile::inner::own_bits(b, c, r);
-        let e = allocation::share_of(nl, qm, g, c, r);
+        let own = cutting::inner::own_bits(b, c, r);
+        let e = inner::share_of(terms, g, c, r);
         blocks::send_block(profile, plan, bits, start, own, e, word, &mut out[at..]);
         start += own;
         at += e.0;
@@ -84,14 +84,13 @@ fn send_in(
     profile: &[u8],
     plan: Plan,
     bits: &[u8],
-    nl: usize,
-    qm: usize,
+    terms: Terms,
     g: CodedBits,
     word: &mut [u8],
     out: &mut [u8],
 ) -> Written
-    requires { ⌜ Ready (now profile) (now bits) plan × (length (now word) ≡ (kb (now profile) + m (now profile)) * plan .z) × Allocated nl qm (g .0) (plan .blocks) × (g .0 ≤ length (now out)) ⌝ }
-    ensures { λ r. ⌜ BitsSent (now (profile .entry)) (plan .bits) (now (bits .entry)) nl qm (g .0) (now (out .entry)) r (now (out .exit)) ⌝ }
+    requires { ⌜ Sendable (now profile) plan (now bits) terms (g .0) (now out) × Fits (now profile) plan (now word) ⌝ }
+    ensures { λ r. ⌜ BitsSent (now (profile .entry)) (plan .bits) (now (bits .entry)) terms (g .0) (now (out .entry)) r (now (out .exit)) ⌝ }
 {
     if !all_have_parity(profile, plan, bits, word) {
         return Written {
@@ -100,7 +99,7 @@ fn send_in(
         };
     }
     let all = g.0;
-    let at = send_blocks(profile, plan, bits, nl, qm, g, word, out);
+    let at = send_blocks(profile, plan, bits, terms, g, word, out);
     clear(&mut out[at..], all - at);
     Written {
         number: DONE,
@@ -113,18 +112,14 @@ pub fn send_bits(
     profile: &[u8],
     plan: Plan,
     bits: &[u8],
-    nl: usize,
-    qm: usize,
+    terms: Terms,
     g: CodedBits,
     out: &mut [u8],
 ) -> Written
-    requires { ⌜ Ready (now profile) (now bits) plan × Allocated nl qm (g .0) (plan .blocks) × (g .0 ≤ length (now out)) ⌝ }
-    ensures { λ r. ⌜ BitsSent (now (profile .entry)) (plan .bits) (now (bits .entry)) nl qm (g .0) (now (out .entry)) r (now (out .exit)) ⌝ }
+    requires { ⌜ Sendable (now profile) plan (now bits) terms (g .0) (now out) ⌝ }
+    ensures { λ r. ⌜ BitsSent (now (profile .entry)) (plan .bits) (now (bits .entry)) terms (g .0) (now (out .entry)) r (now (out .exit)) ⌝ }
 {
-    let z = plan.z;
-    let kb = profile::inner::kb(profile);
-    let m = profile::inner::m(profile);
-    let n = (kb + m) * z;
+    let n = blocks::size(profile, plan);
     let mut room = [0u8; 2592];
-    send_in(profile, plan, bits, nl, qm, g, &mut room[..n], out)
+    send_in(profile, plan, bits, terms, g, &mut room[..n], out)
 }

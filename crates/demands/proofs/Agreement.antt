@@ -5,23 +5,28 @@ use mathlib.Core.List.{List}
 use Prim.Native.Nat.{ℕ}
 use denote.Ref.{RefT, now, ptr}
 use Rattle.bits.specs.declared.number.Written.{Written}
-use Rattle.checksum.specs.declared.Sum.{Sum}
+use Rattle.bits.specs.declared.count.Terms.{Terms}
 use Rattle.checksum.specs.Promises.{OfBits, OfOctets}
+use Rattle.checksum.specs.declared.Sum.{Sum}
 use Rattle.checksum.proofs.Agreement.{of-bits-agree, of-octets-agree}
-use Rattle.profile.specs.declared.Plan.{Plan}
-use Rattle.profile.specs.Promises.{judged, planned}
-use Rattle.profile.proofs.Agreement.{judge-agree, planned-agree}
-use Rattle.parity.specs.declared.Verdict.{Verdict}
+use Rattle.profile.specs.Promises.{judged}
+use Rattle.profile.proofs.Agreement.{judge-agree}
+use Rattle.cutting.specs.Promises.{planned}
+use Rattle.cutting.specs.declared.Plan.{Plan}
+use Rattle.cutting.proofs.Agreement.{planned-agree}
 use Rattle.parity.specs.Promises.{BlockCoded, WordChecked}
+use Rattle.parity.specs.declared.Verdict.{Verdict}
 use Rattle.parity.proofs.Agreement.{block-coded-agree, word-checked-agree}
-use Rattle.coding.specs.Promises.{RateMatched, Sent, Received}
-use Rattle.coding.proofs.Agreement.{rate-match-agree, send-agree, receive-agree}
-use Rattle.advice.specs.declared.Least.{Least}
-use Rattle.advice.specs.Promises.{LeastRoom}
-use Rattle.advice.proofs.Agreement.{least-agree}
+use Rattle.matching.specs.Promises.{RateMatched}
+use Rattle.matching.proofs.Agreement.{rate-match-agree}
+use Rattle.coding.specs.Promises.{Sent, Received}
+use Rattle.coding.proofs.Agreement.{send-agree, receive-agree}
 use Rattle.shelf.specs.Lookup.{lookupNumber}
 use Rattle.shelf.specs.Promises.{LookedUp, HostedSent, HostedReceived}
 use Rattle.shelf.proofs.Agreement.{lookup-number-agree, lookup-agree, hosted-send-agree, hosted-receive-agree}
+use Rattle.advice.specs.Promises.{LeastRoom}
+use Rattle.advice.specs.declared.Least.{Least}
+use Rattle.advice.proofs.Agreement.{least-agree}
 
 -- ---- checksum::of_bits, checksum::of_octets
 
@@ -31,7 +36,7 @@ of-bits a b = of-bits-agree a b
 pub of-octets : {w : ℕ} {octets : List ℕ} {r r' : Sum} → OfOctets w octets r → OfOctets w octets r' → r ≡ r'
 of-octets a b = of-octets-agree a b
 
--- ---- profile::judge, profile::plan_block
+-- ---- profile::judge, cutting::plan_block
 
 pub judge : (R : List ℕ) {r r' : ℕ} → r ≡ judged R → r' ≡ judged R → r ≡ r'
 judge R a b = judge-agree R a b
@@ -48,23 +53,23 @@ code-block a b = block-coded-agree a b
 pub check-word : {R : List ℕ} {z : ℕ} {word : List ℕ} {r r' : Verdict} → WordChecked R z word r → WordChecked R z word r' → r ≡ r'
 check-word a b = word-checked-agree a b
 
--- ---- coding::rate_match, coding::send, coding::receive
+-- ---- matching::rate_match, coding::send, coding::receive
 
 pub rate-match : {coded : List ℕ} {e : ℕ} {out : List ℕ} {r r' : Written} {o o' : List ℕ}
     → RateMatched coded e out r o → RateMatched coded e out r' o' → (r ≡ r') × (o ≡ o')
 rate-match a b = rate-match-agree a b
 
-pub send : {R block : List ℕ} {nl qm g : ℕ} {out : List ℕ} {r r' : Written} {o o' : List ℕ}
-    → Sent R block nl qm g out r o → Sent R block nl qm g out r' o' → (r ≡ r') × (o ≡ o')
+pub send : {R block : List ℕ} {terms : Terms} {g : ℕ} {out : List ℕ} {r r' : Written} {o o' : List ℕ}
+    → Sent R block terms g out r o → Sent R block terms g out r' o' → (r ≡ r') × (o ≡ o')
 send a b = send-agree a b
 
-pub receive : {R : List ℕ} {a nl qm : ℕ} {bits out : List ℕ} {r r' : Written} {o o' : List ℕ}
-    → Received R a nl qm bits out r o → Received R a nl qm bits out r' o' → (r ≡ r') × (o ≡ o')
+pub receive : {R : List ℕ} {a : ℕ} {terms : Terms} {bits out : List ℕ} {r r' : Written} {o o' : List ℕ}
+    → Received R a terms bits out r o → Received R a terms bits out r' o' → (r ≡ r') × (o ≡ o')
 receive a b = receive-agree a b
 
 -- ---- advice::least_bits
 
-pub least-bits : {R : List ℕ} {octets nl qm : ℕ} {r r' : Least} → LeastRoom R octets nl qm r → LeastRoom R octets nl qm r' → r ≡ r'
+pub least-bits : {R : List ℕ} {octets : ℕ} {terms : Terms} {r r' : Least} → LeastRoom R octets terms r → LeastRoom R octets terms r' → r ≡ r'
 least-bits a b = least-agree a b
 
 -- ---- shelf::lookup_number, shelf::lookup (a stretch is its octets and its place), shelf::hosted_send, shelf::hosted_receive
@@ -76,10 +81,10 @@ pub lookup : {private public : RefT (List ℕ)} {t p : ℕ} {r r' : RefT (List �
     → LookedUp private public t p r → LookedUp private public t p r' → (now r ≡ now r') × (ptr r ≡ ptr r')
 lookup a b = lookup-agree a b
 
-pub hosted-send : {private public : List ℕ} {t p : ℕ} {block : List ℕ} {nl qm g : ℕ} {out : List ℕ} {r r' : Written} {o o' : List ℕ}
-    → HostedSent private public t p block nl qm g out r o → HostedSent private public t p block nl qm g out r' o' → (r ≡ r') × (o ≡ o')
+pub hosted-send : {private public : List ℕ} {t p : ℕ} {block : List ℕ} {terms : Terms} {g : ℕ} {out : List ℕ} {r r' : Written} {o o' : List ℕ}
+    → HostedSent private public t p block terms g out r o → HostedSent private public t p block terms g out r' o' → (r ≡ r') × (o ≡ o')
 hosted-send a b = hosted-send-agree a b
 
-pub hosted-receive : {private public : List ℕ} {t p a nl qm : ℕ} {bits out : List ℕ} {r r' : Written} {o o' : List ℕ}
-    → HostedReceived private public t p a nl qm bits out r o → HostedReceived private public t p a nl qm bits out r' o' → (r ≡ r') × (o ≡ o')
+pub hosted-receive : {private public : List ℕ} {t p a : ℕ} {terms : Terms} {bits out : List ℕ} {r r' : Written} {o o' : List ℕ}
+    → HostedReceived private public t p a terms bits out r o → HostedReceived private public t p a terms bits out r' o' → (r ≡ r') × (o ≡ o')
 hosted-receive a b = hosted-receive-agree a b

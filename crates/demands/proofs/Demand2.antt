@@ -8,15 +8,16 @@ use native.Mathlib.Nat.{le-refl}
 use native.Mathlib.Omega.{arith}
 use denote.Ref.{RefT, now, ptr}
 use lib.ListN.{length, take}
+use Rattle.bits.specs.Counts.{ceil}
 use Rattle.bits.specs.declared.number.Written.{Written}
+use Rattle.bits.specs.declared.count.Terms.{Terms}
 use Rattle.bits.proofs.Answers.{when-done}
 use Rattle.bits.proofs.Ranges.{below-or, last-or}
 use Rattle.profile.specs.Record.{kb, t, z}
-use Rattle.bits.specs.Counts.{ceil}
-use Rattle.profile.specs.Plan.{blockBits, blocks, sizeIndex}
-use Rattle.profile.specs.Promises.{planConditions, planNumber}
-use Rattle.profile.proofs.Plans.{plan-cut}
-use Rattle.coding.specs.Transport.{transport}
+use Rattle.cutting.specs.Plan.{blockBits, blocks, sizeIndex}
+use Rattle.cutting.specs.Promises.{planConditions, planNumber}
+use Rattle.cutting.specs.Transport.{transport}
+use Rattle.cutting.proofs.Plans.{plan-cut}
 use Rattle.coding.specs.Blocks.{someWithoutParity}
 use Rattle.coding.specs.Promises.{sendNumber, Sent, Received}
 use Rattle.coding.proofs.RoundTrip.{sent-front}
@@ -29,13 +30,13 @@ use Rattle.shelf.proofs.Hosted.{looked-up, hosted-promised}
 use Rattle.shelf.proofs.Isolation.{same-number, same-record, same-place, same-promise, public-none, served}
 use Rattle.demands.specs.Numbers.{NoneHolds}
 use Rattle.demands.specs.Steps.{Steps}
-use Rattle.demands.proofs.Lowest.{none-answered}
+use Rattle.demands.proofs.Order.{none-answered}
 use Rattle.demands.proofs.Demand1.{send-number}
 use Rattle.demands.proofs.Steps.{steps, steps-only}
 
 -- ---- "Sending gives bit for bit what 5G.212 v2.3 defines, as document 01 states it"
 
-module _ {R block : List ℕ} {nl qm g : ℕ} {out : List ℕ} {r : Written} {o : List ℕ} (s : Sent R block nl qm g out r o) (done : r .number ≡ 0) where
+module _ {R block : List ℕ} {terms : Terms} {g : ℕ} {out : List ℕ} {r : Written} {o : List ℕ} (s : Sent R block terms g out r o) (done : r .number ≡ 0) where
   passed : (planNumber R (length block) ≡ 0) × (someWithoutParity R (blockBits (length block)) (transport block) ≡ false)
   unfolding NoneHolds planNumber
   passed =
@@ -43,23 +44,23 @@ module _ {R block : List ℕ} {nl qm g : ℕ} {out : List ℕ} {r : Written} {o 
       (none-answered (planConditions R (length block)) (h .0, (h .1 .0, (h .1 .1 .0, (h .1 .1 .1 .1 .0, tt)))), h .1 .1 .1 .1 .1 .1 .1 .0)
 
   -- where sending answers 0 (when it does is in Demand1), G octets are written, and they follow the six steps
-  pub sends : (r .count ≡ g) × (Steps R block nl qm g (take g o))
+  pub sends : (r .count ≡ g) × (Steps R block terms g (take g o))
   sends = (
-    s .count ∙ when-done (sendNumber R block nl qm g (length out)) g 0 (sym (s .number) ∙ done),
-    subst (Steps R block nl qm g) (sym (sent-front s done)) (steps R block nl qm g (passed .0) (passed .1)),
+    s .count ∙ when-done (sendNumber R block terms g (length out)) g 0 (sym (s .number) ∙ done),
+    subst (Steps R block terms g) (sym (sent-front s done)) (steps R block terms g (passed .0) (passed .1)),
   )
 
   -- and no other bits follow them
-  pub sends-only : (bits : List ℕ) → Steps R block nl qm g bits → bits ≡ take g o
-  sends-only bits h = steps-only R block nl qm g (passed .0) (passed .1) bits h ∙ sym (sent-front s done)
+  pub sends-only : (bits : List ℕ) → Steps R block terms g bits → bits ≡ take g o
+  sends-only bits h = steps-only R block terms g (passed .0) (passed .1) bits h ∙ sym (sent-front s done)
 
 -- the same over the hosted call, with the record that was found
-module _ {private public : List ℕ} {t p : ℕ} {block : List ℕ} {nl qm g : ℕ} {out : List ℕ} {r : Written} {o : List ℕ}
-    (h : HostedSent private public t p block nl qm g out r o) (done : r .number ≡ 0) where
-  pub hosted-sends : (r .count ≡ g) × (Steps (lookupRecord private public t p) block nl qm g (take g o))
+module _ {private public : List ℕ} {t p : ℕ} {block : List ℕ} {terms : Terms} {g : ℕ} {out : List ℕ} {r : Written} {o : List ℕ}
+    (h : HostedSent private public t p block terms g out r o) (done : r .number ≡ 0) where
+  pub hosted-sends : (r .count ≡ g) × (Steps (lookupRecord private public t p) block terms g (take g o))
   hosted-sends = sends (hosted-promised h (inl done)) done
 
-  pub hosted-sends-only : (bits : List ℕ) → Steps (lookupRecord private public t p) block nl qm g bits → bits ≡ take g o
+  pub hosted-sends-only : (bits : List ℕ) → Steps (lookupRecord private public t p) block terms g bits → bits ≡ take g o
   hosted-sends-only bits s = sends-only (hosted-promised h (inl done)) done bits s
 
 -- "Kmax is kb times the largest z", "the smallest z with kb·z ≥ ceil(B/C)": the last of an accepted record's sizes is the largest, and the one that is
@@ -91,16 +92,16 @@ lookup-served {private} {public} {t} {p} a z =
     subst (λ (R : List ℕ). Own (now private) t p R ⊎ Public (now private) (now public) t p R) (sym (a .octets)) (served (now private) (now public) t p z)
 
 -- and the hosted calls do with that record what `send` and `receive` promise of it, unless they answer one of lookup's numbers, 1 to 4
-pub send-served : {private public : List ℕ} {t p : ℕ} {block : List ℕ} {nl qm g : ℕ} {out : List ℕ} {r : Written} {o : List ℕ}
-    → HostedSent private public t p block nl qm g out r o → (r .number ≡ 0) ⊎ (4 < r .number)
+pub send-served : {private public : List ℕ} {t p : ℕ} {block : List ℕ} {terms : Terms} {g : ℕ} {out : List ℕ} {r : Written} {o : List ℕ}
+    → HostedSent private public t p block terms g out r o → (r .number ≡ 0) ⊎ (4 < r .number)
     → (Own private t p (lookupRecord private public t p) ⊎ Public private public t p (lookupRecord private public t p))
-    × Sent (lookupRecord private public t p) block nl qm g out r o
+    × Sent (lookupRecord private public t p) block terms g out r o
 send-served {private} {public} {t} {p} h other = (served private public t p (looked-up h other), hosted-promised h other)
 
-pub receive-served : {private public : List ℕ} {t p a nl qm : ℕ} {bits out : List ℕ} {r : Written} {o : List ℕ}
-    → HostedReceived private public t p a nl qm bits out r o → (r .number ≡ 0) ⊎ (4 < r .number)
+pub receive-served : {private public : List ℕ} {t p a : ℕ} {terms : Terms} {bits out : List ℕ} {r : Written} {o : List ℕ}
+    → HostedReceived private public t p a terms bits out r o → (r .number ≡ 0) ⊎ (4 < r .number)
     → (Own private t p (lookupRecord private public t p) ⊎ Public private public t p (lookupRecord private public t p))
-    × Received (lookupRecord private public t p) a nl qm bits out r o
+    × Received (lookupRecord private public t p) a terms bits out r o
 receive-served {private} {public} {t} {p} h other = (served private public t p (looked-up h other), hosted-promised h other)
 
 -- ---- "Two well-formed private shelves that agree on that tenant's records give it the same answers and bits, with all else equal."
@@ -124,10 +125,10 @@ module _ {t : ℕ} {S S' : List ℕ} (formed : privateShelf S ≡ true) (formed'
   pub lookup-number-isolated : {n n' : ℕ} → n ≡ lookupNumber S public t p → n' ≡ lookupNumber S' public t p → n ≡ n'
   lookup-number-isolated a b = a ∙ same-number (both-formed formed formed' agree) public p ∙ sym b
 
-  pub send-isolated : {block : List ℕ} {nl qm g : ℕ} {out : List ℕ} {r r' : Written} {o o' : List ℕ}
-      → HostedSent S public t p block nl qm g out r o → HostedSent S' public t p block nl qm g out r' o' → (r ≡ r') × (o ≡ o')
+  pub send-isolated : {block : List ℕ} {terms : Terms} {g : ℕ} {out : List ℕ} {r r' : Written} {o o' : List ℕ}
+      → HostedSent S public t p block terms g out r o → HostedSent S' public t p block terms g out r' o' → (r ≡ r') × (o ≡ o')
   send-isolated a b = hosted-send-agree (same-promise (both-formed formed formed' agree) public p a) b
 
-  pub receive-isolated : {a nl qm : ℕ} {bits out : List ℕ} {r r' : Written} {o o' : List ℕ}
-      → HostedReceived S public t p a nl qm bits out r o → HostedReceived S' public t p a nl qm bits out r' o' → (r ≡ r') × (o ≡ o')
+  pub receive-isolated : {a : ℕ} {terms : Terms} {bits out : List ℕ} {r r' : Written} {o o' : List ℕ}
+      → HostedReceived S public t p a terms bits out r o → HostedReceived S' public t p a terms bits out r' o' → (r ≡ r') × (o ≡ o')
   receive-isolated a b = hosted-receive-agree (same-promise (both-formed formed formed' agree) public p a) b

@@ -6,10 +6,11 @@ use Prim.Native.Nat.{ℕ, _*_, _≤_}
 use lib.ListN.{length, take, drop}
 use Rattle.bits.specs.Bits.{AreBits, AreOctets}
 use Rattle.bits.specs.declared.number.Written.{Written}
+use Rattle.bits.specs.declared.count.Terms.{Terms}
 use Rattle.coding.specs.Promises.{Sent, Received}
 use Rattle.coding.specs.RoundTrip.{Roomy, NoneSentAs}
 use Rattle.coding.proofs.RoundTrip.{sent-apart, sent-returns, unsent-exactly}
-use Rattle.shelf.specs.Lookup.{lookupNumber, lookupRecord}
+use Rattle.shelf.specs.Lookup.{lookupRecord}
 use Rattle.shelf.specs.Promises.{HostedSent, HostedReceived}
 use Rattle.shelf.proofs.Hosted.{hosted-found}
 use Rattle.demands.proofs.Hosted.{planned-found}
@@ -20,45 +21,45 @@ use Rattle.demands.proofs.Hosted.{planned-found}
 -- ---- `send` and `receive`
 
 -- "Two different transport blocks are never sent as the same bits"
-pub apart : {R block block' : List ℕ} {nl qm g : ℕ} {out : List ℕ} {r : Written} {o out' : List ℕ} {r' : Written} {o' : List ℕ}
-    → Roomy R (length block) nl qm g → AreOctets block → AreOctets block' → length block ≡ length block'
-    → Sent R block nl qm g out r o → r .number ≡ 0 → Sent R block' nl qm g out' r' o' → r' .number ≡ 0
+pub apart : {R block block' : List ℕ} {terms : Terms} {g : ℕ} {out : List ℕ} {r : Written} {o out' : List ℕ} {r' : Written} {o' : List ℕ}
+    → Roomy R (length block) terms g → AreOctets block → AreOctets block' → length block ≡ length block'
+    → Sent R block terms g out r o → r .number ≡ 0 → Sent R block' terms g out' r' o' → r' .number ≡ 0
     → take g o ≡ take g o' → block ≡ block'
 apart h whole whole' size s done s' done' e = sent-apart h whole whole' size s done s' done' e
 
 -- "receiving the sent bits returns the block"
-pub returns : {R block : List ℕ} {nl qm g : ℕ} {out : List ℕ} {r : Written} {o buf : List ℕ} {r' : Written} {buf' : List ℕ}
-    → Roomy R (length block) nl qm g → AreOctets block → length block ≤ length buf
-    → Sent R block nl qm g out r o → r .number ≡ 0 → Received R (8 * length block) nl qm (take g o) buf r' buf'
+pub returns : {R block : List ℕ} {terms : Terms} {g : ℕ} {out : List ℕ} {r : Written} {o buf : List ℕ} {r' : Written} {buf' : List ℕ}
+    → Roomy R (length block) terms g → AreOctets block → length block ≤ length buf
+    → Sent R block terms g out r o → r .number ≡ 0 → Received R (8 * length block) terms (take g o) buf r' buf'
     → (r' .number ≡ 0) × (r' .count ≡ length block) × (take (length block) buf' ≡ block) × (buf' ≡ block ++ drop (length block) buf)
 returns h whole fits s done v = sent-returns h whole fits s done v
 
 -- "and received noughts and ones, as many as the allocation gives, are refused as unsent exactly when no transport block of that length is sent as
 -- them, sending being that of the second demand"
-pub exactly : {R : List ℕ} {octets nl qm : ℕ} {bits buf : List ℕ} {r : Written} {buf' : List ℕ}
-    → Roomy R octets nl qm (length bits) → AreBits bits → octets ≤ length buf → Received R (8 * octets) nl qm bits buf r buf'
-    → (r .number ≡ 14 → NoneSentAs (λ block out r out'. Sent R block nl qm (length bits) out r out') octets bits)
-    × (NoneSentAs (λ block out r out'. Sent R block nl qm (length bits) out r out') octets bits → r .number ≡ 14)
+pub exactly : {R : List ℕ} {octets : ℕ} {terms : Terms} {bits buf : List ℕ} {r : Written} {buf' : List ℕ}
+    → Roomy R octets terms (length bits) → AreBits bits → octets ≤ length buf → Received R (8 * octets) terms bits buf r buf'
+    → (r .number ≡ 14 → NoneSentAs (λ block out r out'. Sent R block terms (length bits) out r out') octets bits)
+    × (NoneSentAs (λ block out r out'. Sent R block terms (length bits) out r out') octets bits → r .number ≡ 14)
 exactly h single fits v = unsent-exactly h single fits v
 
 -- ---- the hosted calls: R is the record that the tenant t is given for the profile number p
 
 module _ {private public : List ℕ} {t p : ℕ} where
   -- "Two different transport blocks are never sent as the same bits"
-  pub hosted-apart : {block block' : List ℕ} {nl qm g : ℕ} {out : List ℕ} {r : Written} {o out' : List ℕ} {r' : Written} {o' : List ℕ}
-      → Roomy (lookupRecord private public t p) (length block) nl qm g → AreOctets block → AreOctets block' → length block ≡ length block'
-      → HostedSent private public t p block nl qm g out r o → r .number ≡ 0
-      → HostedSent private public t p block' nl qm g out' r' o' → r' .number ≡ 0
+  pub hosted-apart : {block block' : List ℕ} {terms : Terms} {g : ℕ} {out : List ℕ} {r : Written} {o out' : List ℕ} {r' : Written} {o' : List ℕ}
+      → Roomy (lookupRecord private public t p) (length block) terms g → AreOctets block → AreOctets block' → length block ≡ length block'
+      → HostedSent private public t p block terms g out r o → r .number ≡ 0
+      → HostedSent private public t p block' terms g out' r' o' → r' .number ≡ 0
       → take g o ≡ take g o' → block ≡ block'
   hosted-apart {block = block} h whole whole' size s done s' done' e =
       let z = planned-found private public t p (length block) (h .taken) in
       sent-apart h whole whole' size (s .found z) done (s' .found z) done' e
 
   -- "receiving the sent bits returns the block"
-  pub hosted-returns : {block : List ℕ} {nl qm g : ℕ} {out : List ℕ} {r : Written} {o buf : List ℕ} {r' : Written} {buf' : List ℕ}
-      → Roomy (lookupRecord private public t p) (length block) nl qm g → AreOctets block → length block ≤ length buf
-      → HostedSent private public t p block nl qm g out r o → r .number ≡ 0
-      → HostedReceived private public t p (8 * length block) nl qm (take g o) buf r' buf'
+  pub hosted-returns : {block : List ℕ} {terms : Terms} {g : ℕ} {out : List ℕ} {r : Written} {o buf : List ℕ} {r' : Written} {buf' : List ℕ}
+      → Roomy (lookupRecord private public t p) (length block) terms g → AreOctets block → length block ≤ length buf
+      → HostedSent private public t p block terms g out r o → r .number ≡ 0
+      → HostedReceived private public t p (8 * length block) terms (take g o) buf r' buf'
       → (r' .number ≡ 0) × (r' .count ≡ length block) × (take (length block) buf' ≡ block) × (buf' ≡ block ++ drop (length block) buf)
   hosted-returns {block = block} h whole fits s done v =
       let z = planned-found private public t p (length block) (h .taken) in
@@ -66,12 +67,12 @@ module _ {private public : List ℕ} {t p : ℕ} where
 
   -- "and received noughts and ones, as many as the allocation gives, are refused as unsent exactly when no transport block of that length is sent
   -- as them, sending being that of the second demand"
-  pub hosted-exactly : {octets nl qm : ℕ} {bits buf : List ℕ} {r : Written} {buf' : List ℕ}
-      → Roomy (lookupRecord private public t p) octets nl qm (length bits) → AreBits bits → octets ≤ length buf
-      → HostedReceived private public t p (8 * octets) nl qm bits buf r buf'
-      → (r .number ≡ 14 → NoneSentAs (λ block out r out'. HostedSent private public t p block nl qm (length bits) out r out') octets bits)
-      × (NoneSentAs (λ block out r out'. HostedSent private public t p block nl qm (length bits) out r out') octets bits → r .number ≡ 14)
-  hosted-exactly {octets} {nl} {qm} {bits} h single fits v =
+  pub hosted-exactly : {octets : ℕ} {terms : Terms} {bits buf : List ℕ} {r : Written} {buf' : List ℕ}
+      → Roomy (lookupRecord private public t p) octets terms (length bits) → AreBits bits → octets ≤ length buf
+      → HostedReceived private public t p (8 * octets) terms bits buf r buf'
+      → (r .number ≡ 14 → NoneSentAs (λ block out r out'. HostedSent private public t p block terms (length bits) out r out') octets bits)
+      × (NoneSentAs (λ block out r out'. HostedSent private public t p block terms (length bits) out r out') octets bits → r .number ≡ 14)
+  hosted-exactly {octets} {terms} {bits} h single fits v =
       let z = planned-found private public t p octets (h .taken) in
       let both-ways = unsent-exactly h single fits (v .found z) in (
         λ e block whole size out w out' s. both-ways .0 e block whole size out w out' (s .found z),

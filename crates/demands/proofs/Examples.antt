@@ -1,51 +1,53 @@
 -- No statement is empty: with the toy profile of document 01 there are sendings and receptions that are accepted, and every refusal from 1 to 14 is
 -- reached. The searches of 14 and of what is received are never computed; the laws decide them.
 use mathlib.Core.Path.{_≡_, refl, sym, ap, _∙_, subst}
-use mathlib.Core.Bool.{true, false, true≢false}
+use mathlib.Core.Bool.{false, true≢false}
 use mathlib.Core.List.{List, [], _∷_, _++_, map}
 use Prim.Native.Nat.{ℕ, zero, suc, _≤_}
 use native.Mathlib.Omega.{arith}
 use lib.Dec.{lit<, lit≤}
 use lib.ListN.{length, getD, take, drop, replicate, set}
-use Rattle.bits.specs.Bits.{AreOctets, someOver, numberAt, readOn, valueOf, unpacked, digits}
-use Rattle.bits.specs.Counts.{ceil, symbolPlacesOf, codedBitsOf}
+use Rattle.bits.specs.Bits.{AreOctets, someOver, numberAt, readOn, valueOf, unpacked, digits, withFiller}
+use Rattle.bits.specs.Counts.{ceil, usable, placeBits, symbolPlacesOf, codedBitsOf}
 use Rattle.bits.specs.Numbers.{answered, whenDone}
-use Rattle.bits.specs.Ranges.{sumBelow, parityBelow, allBelow, anyBelow, firstBelow}
+use Rattle.bits.specs.Ranges.{sumBelow, parityBelow, allBelow, anyBelow, firstBelow, listBelow}
 use Rattle.bits.specs.declared.number.Written.{Written}
+use Rattle.bits.specs.declared.count.Terms.{Terms}
 use Rattle.bits.proofs.Over.{over-none-bits}
 use Rattle.checksum.specs.Crc.{reduce, divideOn, remainder, checksum, attached}
-use Rattle.checksum.specs.Crc as crc
-use Rattle.checksum.specs.steps.Testing as testing
 use Rattle.checksum.proofs.Attachment.{checks-complete}
-use Rattle.profile.specs.Record.{kb, m, t, z, offset, tableSize, table, entry, headerRight, rises, sizesRight, offsetDue, offsetsRight, endsRight, shiftRight, tableRight, wellFormed}
+use Rattle.profile.specs.Record.{kb, m, t, z, offset, rows, columns, tableSize, table, entry, headerRight, rises, sizesRight, offsetDue, offsetsRight, endsRight, shiftRight, tableRight, wellFormed}
 use Rattle.profile.specs.Staircase.{filled, filledBetween, firstColumn, nextDue, nextColumn, staircase, staircases}
-use Rattle.profile.specs.Plan.{blockBits, kmax, blocks, ownBits, sizeIndexFor, sizeIndex, places, filler}
-use Rattle.profile.specs.Promises.{planNumber}
-use Rattle.profile.proofs.Plans.{plan-cut}
+use Rattle.cutting.specs.Plan.{blockBits, kmax, blocks, ownBits, sizeIndexFor, sizeIndex, places, filler}
+use Rattle.cutting.specs.Promises.{planNumber}
+use Rattle.cutting.specs.Transport.{transport}
+use Rattle.cutting.specs.Cutting.{ownStart, own, systematic}
+use Rattle.cutting.proofs.Plans.{plan-cut}
+use Rattle.cutting.proofs.Transported.{generator-24}
 use Rattle.parity.specs.Matrix.{square, spread, bitAt, rowEven, checks}
 use Rattle.parity.specs.Coded.{withParity, checksWith, hasParity, coded}
-use Rattle.coding.specs.Transport.{transport}
-use Rattle.coding.specs.Cutting.{ownStart, own, withFiller, systematic}
+use Rattle.matching.specs.Matching.{kept, matched}
 use Rattle.coding.specs.Allocation.{misallocated, symbolPlaces, share}
 use Rattle.coding.specs.Blocks.{codedBlock, blockHasParity, someWithoutParity, sendable}
 use Rattle.coding.specs.Receiving.{someWithoutRoom}
 use Rattle.coding.specs.Promises.{tooFewPlaces, sendNumber, Sent, notOctets, receiveNumber, Received}
-use Rattle.coding.specs.steps.Receiving.{shareStart, ownReceived, gathered, Receivable}
-use Rattle.coding.specs.Matching.{kept, listBelow, matched}
 use Rattle.coding.specs.Joining.{blockSent, joined, padded, radioBits}
 use Rattle.coding.specs.RoundTrip.{Roomy}
+use Rattle.coding.specs.steps.Receiving.{shareStart, ownReceived, gathered, Receivable}
+use Rattle.coding.specs.steps.Numbers.{cutNumber}
 use Rattle.coding.proofs.RoundTrip.{sent-front, sent-returns, unsent-exactly}
 use Rattle.coding.proofs.Shares.{allocated}
 use Rattle.coding.proofs.Received.{block-gathered}
-use Rattle.coding.proofs.Transported.{generator-24}
-use Rattle.advice.specs.Promises.{LeastRoom}
-use Rattle.advice.specs.steps.Counting.{cutNumber, mostSendable}
-use Rattle.advice.proofs.Numbers.{last-done}
-use Rattle.shelf.specs.Shelf as shelves
 use Rattle.shelf.specs.Promises.{HostedReceived}
 use Rattle.shelf.specs.Lookup.{isEntry, has, entryOf, recordOf, lookupNumber, lookupRecord}
-use Rattle.demands.specs.Worked.{toy, p10Octets, toySent, cases}
+use Rattle.advice.specs.Promises.{LeastRoom}
+use Rattle.advice.specs.steps.Counting.{mostSendable}
+use Rattle.advice.proofs.Numbers.{last-done}
+use Rattle.demands.specs.Worked.{toy, p10Octets, toyTerms, toySent, cases}
 use Rattle.demands.proofs.Worked.{worked}
+use Rattle.checksum.specs.Crc as crc
+use Rattle.checksum.specs.steps.Testing as testing
+use Rattle.shelf.specs.Shelf as shelves
 
 -- ---- every refusal that is not of the coded bits themselves, by computing: sending
 
@@ -56,35 +58,34 @@ bent = set toy 15 1
 pub record Sending : Type 0 where
   pub profile : List ℕ
   pub block : List ℕ
-  pub nl : ℕ
-  pub qm : ℕ
+  pub terms : Terms
   pub g : ℕ
   pub room : ℕ
   pub due : ℕ
 
 unfoldable pub sendings : List Sending
 sendings =
-    record { profile = toy; block = 0x01 ∷ []; nl = 1; qm = 2; g = 128; room = 128; due = 0 }
-    ∷ record { profile = toy; block = 0x01 ∷ []; nl = 1; qm = 2; g = 130; room = 200; due = 0 }
-    ∷ record { profile = toy; block = 0x01 ∷ []; nl = 1; qm = 2; g = 126; room = 126; due = 0 }
-    ∷ record { profile = []; block = 0x01 ∷ []; nl = 1; qm = 2; g = 128; room = 128; due = 5 }
-    ∷ record { profile = bent; block = 0x01 ∷ []; nl = 1; qm = 2; g = 128; room = 128; due = 6 }
-    ∷ record { profile = toy; block = []; nl = 1; qm = 2; g = 128; room = 128; due = 7 }
-    ∷ record { profile = toy; block = 0x01 ∷ []; nl = 1; qm = 2; g = 129; room = 129; due = 8 }
-    ∷ record { profile = toy; block = replicate 14 0; nl = 1; qm = 2; g = 128; room = 128; due = 9 }
-    ∷ record { profile = toy; block = 0x01 ∷ []; nl = 1; qm = 2; g = 30; room = 30; due = 10 }
-    ∷ record { profile = toy; block = 0x01 ∷ []; nl = 1; qm = 2; g = 128; room = 127; due = 11 }
+    record { profile = toy; block = 0x01 ∷ []; terms = toyTerms; g = 128; room = 128; due = 0 }
+    ∷ record { profile = toy; block = 0x01 ∷ []; terms = toyTerms; g = 130; room = 200; due = 0 }
+    ∷ record { profile = toy; block = 0x01 ∷ []; terms = toyTerms; g = 126; room = 126; due = 0 }
+    ∷ record { profile = []; block = 0x01 ∷ []; terms = toyTerms; g = 128; room = 128; due = 5 }
+    ∷ record { profile = bent; block = 0x01 ∷ []; terms = toyTerms; g = 128; room = 128; due = 6 }
+    ∷ record { profile = toy; block = []; terms = toyTerms; g = 128; room = 128; due = 7 }
+    ∷ record { profile = toy; block = 0x01 ∷ []; terms = toyTerms; g = 129; room = 129; due = 8 }
+    ∷ record { profile = toy; block = replicate 14 0; terms = toyTerms; g = 128; room = 128; due = 9 }
+    ∷ record { profile = toy; block = 0x01 ∷ []; terms = toyTerms; g = 30; room = 30; due = 10 }
+    ∷ record { profile = toy; block = 0x01 ∷ []; terms = toyTerms; g = 128; room = 127; due = 11 }
     ∷ []
 
 abbrev pub sending : Sending → ℕ
-sending c = sendNumber (c .profile) (c .block) (c .nl) (c .qm) (c .g) (c .room)
+sending c = sendNumber (c .profile) (c .block) (c .terms) (c .g) (c .room)
 
 abbrev pub sendingDue : Sending → ℕ
 sendingDue c = c .due
 
 pub sendings-answered : map sending sendings ≡ map sendingDue sendings
-unfolding sendings bent toy sendNumber answered misallocated tooFewPlaces share symbolPlaces symbolPlacesOf codedBitsOf numberAt digits readOn valueOf unpacked sumBelow parityBelow
-    allBelow anyBelow firstBelow reduce divideOn remainder checksum attached kb m t z offset tableSize table entry headerRight rises sizesRight offsetDue offsetsRight endsRight shiftRight
+unfolding sendings bent toy sendNumber answered misallocated usable tooFewPlaces share symbolPlaces placeBits symbolPlacesOf codedBitsOf numberAt digits readOn valueOf unpacked sumBelow parityBelow
+    allBelow anyBelow firstBelow reduce divideOn remainder checksum attached kb m t z offset rows columns tableSize table entry headerRight rises sizesRight offsetDue offsetsRight endsRight shiftRight
     tableRight wellFormed filled filledBetween firstColumn nextDue nextColumn staircase staircases ceil blockBits kmax blocks ownBits sizeIndexFor sizeIndex places filler square spread bitAt
     rowEven checks withParity checksWith hasParity transport ownStart own withFiller systematic blockHasParity someWithoutParity
 sendings-answered = refl
@@ -94,34 +95,33 @@ sendings-answered = refl
 pub record Receiving : Type 0 where
   pub profile : List ℕ
   pub a : ℕ
-  pub nl : ℕ
-  pub qm : ℕ
+  pub terms : Terms
   pub bits : List ℕ
   pub room : ℕ
   pub due : ℕ
 
 unfoldable pub receivings : List Receiving
 receivings =
-    record { profile = []; a = 8; nl = 1; qm = 2; bits = replicate 128 0; room = 1; due = 5 }
-    ∷ record { profile = bent; a = 8; nl = 1; qm = 2; bits = replicate 128 0; room = 1; due = 6 }
-    ∷ record { profile = toy; a = 9; nl = 1; qm = 2; bits = replicate 128 0; room = 1; due = 7 }
-    ∷ record { profile = toy; a = 8; nl = 1; qm = 2; bits = replicate 129 0; room = 1; due = 8 }
-    ∷ record { profile = toy; a = 112; nl = 1; qm = 2; bits = replicate 128 0; room = 14; due = 9 }
-    ∷ record { profile = toy; a = 8; nl = 1; qm = 2; bits = replicate 30 0; room = 1; due = 10 }
-    ∷ record { profile = toy; a = 8; nl = 1; qm = 2; bits = replicate 128 0; room = 0; due = 11 }
-    ∷ record { profile = toy; a = 8; nl = 1; qm = 2; bits = replicate 127 0 ++ (2 ∷ []); room = 1; due = 12 }
-    ∷ record { profile = toy; a = 8; nl = 1; qm = 2; bits = replicate 126 0; room = 1; due = 13 }
+    record { profile = []; a = 8; terms = toyTerms; bits = replicate 128 0; room = 1; due = 5 }
+    ∷ record { profile = bent; a = 8; terms = toyTerms; bits = replicate 128 0; room = 1; due = 6 }
+    ∷ record { profile = toy; a = 9; terms = toyTerms; bits = replicate 128 0; room = 1; due = 7 }
+    ∷ record { profile = toy; a = 8; terms = toyTerms; bits = replicate 129 0; room = 1; due = 8 }
+    ∷ record { profile = toy; a = 112; terms = toyTerms; bits = replicate 128 0; room = 14; due = 9 }
+    ∷ record { profile = toy; a = 8; terms = toyTerms; bits = replicate 30 0; room = 1; due = 10 }
+    ∷ record { profile = toy; a = 8; terms = toyTerms; bits = replicate 128 0; room = 0; due = 11 }
+    ∷ record { profile = toy; a = 8; terms = toyTerms; bits = replicate 127 0 ++ (2 ∷ []); room = 1; due = 12 }
+    ∷ record { profile = toy; a = 8; terms = toyTerms; bits = replicate 126 0; room = 1; due = 13 }
     ∷ []
 
 abbrev pub receiving : Receiving → ℕ
-receiving c = receiveNumber (c .profile) (c .a) (c .nl) (c .qm) (c .bits) (c .room)
+receiving c = receiveNumber (c .profile) (c .a) (c .terms) (c .bits) (c .room)
 
 abbrev pub receivingDue : Receiving → ℕ
 receivingDue c = c .due
 
 pub receivings-answered : map receiving receivings ≡ map receivingDue receivings
-unfolding receivings bent toy receiveNumber answered notOctets misallocated tooFewPlaces share symbolPlaces symbolPlacesOf codedBitsOf someOver someWithoutRoom sendable numberAt
-    sumBelow allBelow anyBelow firstBelow kb m t z offset tableSize table entry headerRight rises sizesRight offsetDue offsetsRight endsRight shiftRight tableRight wellFormed filled filledBetween firstColumn nextDue
+unfolding receivings bent toy receiveNumber answered notOctets misallocated usable tooFewPlaces share symbolPlaces placeBits symbolPlacesOf codedBitsOf someOver someWithoutRoom sendable numberAt
+    sumBelow allBelow anyBelow firstBelow kb m t z offset rows columns tableSize table entry headerRight rises sizesRight offsetDue offsetsRight endsRight shiftRight tableRight wellFormed filled filledBetween firstColumn nextDue
     nextColumn staircase staircases ceil blockBits kmax blocks ownBits sizeIndexFor sizeIndex places filler
 receivings-answered = refl
 
@@ -175,39 +175,39 @@ thirteen-and-fourteen = (refl, refl, refl)
 -- ---- "Take an accepted profile, block length and allocation in which every code block has room": there are some
 
 pub record Room (g : ℕ) : Type 0 where
-  pub direct : Roomy toy 1 1 2 g
-  pub hosted : Roomy (lookupRecord shelf bare 1 7) 1 1 2 g
+  pub direct : Roomy toy 1 toyTerms g
+  pub hosted : Roomy (lookupRecord shelf bare 1 7) 1 toyTerms g
 
 planned : planNumber toy 1 ≡ 0
-unfolding planNumber answered toy numberAt sumBelow allBelow anyBelow kb m t z offset tableSize table entry headerRight rises sizesRight offsetDue offsetsRight endsRight shiftRight tableRight
+unfolding planNumber answered toy numberAt sumBelow allBelow anyBelow kb m t z offset rows columns tableSize table entry headerRight rises sizesRight offsetDue offsetsRight endsRight shiftRight tableRight
     wellFormed filled filledBetween firstColumn nextDue nextColumn staircase staircases ceil blockBits kmax blocks
 planned = refl
 
-roomy : (g : ℕ) → Roomy toy 1 1 2 g → Room g
-roomy g h = record { direct = h; hosted = subst (λ (R : List ℕ). Roomy R 1 1 2 g) (sym looked-up) h }
+roomy : (g : ℕ) → Roomy toy 1 toyTerms g → Room g
+roomy g h = record { direct = h; hosted = subst (λ (R : List ℕ). Roomy R 1 toyTerms g) (sym looked-up) h }
 
 pub room-128 : Room 128
-unfolding misallocated tooFewPlaces someWithoutRoom sendable share symbolPlaces symbolPlacesOf codedBitsOf toy numberAt anyBelow firstBelow kb m t z ceil blockBits kmax blocks ownBits
+unfolding misallocated usable tooFewPlaces someWithoutRoom sendable share symbolPlaces placeBits symbolPlacesOf codedBitsOf toy numberAt anyBelow firstBelow kb m t z rows columns ceil blockBits kmax blocks ownBits
     sizeIndexFor sizeIndex places filler
 room-128 = roomy 128 (record { taken = planned; allocation = refl; enough = refl; room = refl })
 
 pub room-130 : Room 130
-unfolding misallocated tooFewPlaces someWithoutRoom sendable share symbolPlaces symbolPlacesOf codedBitsOf toy numberAt anyBelow firstBelow kb m t z ceil blockBits kmax blocks ownBits
+unfolding misallocated usable tooFewPlaces someWithoutRoom sendable share symbolPlaces placeBits symbolPlacesOf codedBitsOf toy numberAt anyBelow firstBelow kb m t z rows columns ceil blockBits kmax blocks ownBits
     sizeIndexFor sizeIndex places filler
 room-130 = roomy 130 (record { taken = planned; allocation = refl; enough = refl; room = refl })
 
 pub room-256 : Room 256
-unfolding misallocated tooFewPlaces someWithoutRoom sendable share symbolPlaces symbolPlacesOf codedBitsOf toy numberAt anyBelow firstBelow kb m t z ceil blockBits kmax blocks ownBits
+unfolding misallocated usable tooFewPlaces someWithoutRoom sendable share symbolPlaces placeBits symbolPlacesOf codedBitsOf toy numberAt anyBelow firstBelow kb m t z rows columns ceil blockBits kmax blocks ownBits
     sizeIndexFor sizeIndex places filler
 room-256 = roomy 256 (record { taken = planned; allocation = refl; enough = refl; room = refl })
 
 -- ---- a reception that is accepted: the 128 bits of P10
 
-sent-128 : radioBits toy (blockBits 1) (transport (0x01 ∷ [])) 1 2 128 ≡ unpacked p10Octets
+sent-128 : radioBits toy (blockBits 1) (transport (0x01 ∷ [])) toyTerms 128 ≡ unpacked p10Octets
 unfolding cases toySent
 sent-128 = ap (λ (l : List (List ℕ)). drop 3 (getD l 9 [])) worked
 
-sent-130 : radioBits toy (blockBits 1) (transport (0x01 ∷ [])) 1 2 130 ≡ unpacked p10Octets ++ (0 ∷ 0 ∷ [])
+sent-130 : radioBits toy (blockBits 1) (transport (0x01 ∷ [])) toyTerms 130 ≡ unpacked p10Octets ++ (0 ∷ 0 ∷ [])
 unfolding cases toySent
 sent-130 = ap (λ (l : List (List ℕ)). drop 3 (getD l 10 [])) worked
 
@@ -215,71 +215,71 @@ sent-130 = ap (λ (l : List (List ℕ)). drop 3 (getD l 10 [])) worked
 abbrev answerOf : ℕ → ℕ → Written
 answerOf n k = record { number = n; count = whenDone n k 0 }
 
-sent-so : (R block : List ℕ) (nl qm g : ℕ) (out : List ℕ)
-    → Sent R block nl qm g out (answerOf (sendNumber R block nl qm g (length out)) g)
-    (whenDone (sendNumber R block nl qm g (length out)) (radioBits R (blockBits (length block)) (transport block) nl qm g ++ drop g out) out)
-sent-so R block nl qm g out = record { number = refl; count = refl; output = refl }
+sent-so : (R block : List ℕ) (terms : Terms) (g : ℕ) (out : List ℕ)
+    → Sent R block terms g out (answerOf (sendNumber R block terms g (length out)) g)
+    (whenDone (sendNumber R block terms g (length out)) (radioBits R (blockBits (length block)) (transport block) terms g ++ drop g out) out)
+sent-so R block terms g out = record { number = refl; count = refl; output = refl }
 
 one-octet : AreOctets (0x01 ∷ [])
 one-octet zero = lit< tt
 one-octet (suc k) = lit< tt
 
-done-128 : sendNumber toy (0x01 ∷ []) 1 2 128 (length (replicate {A = ℕ} 128 0)) ≡ 0
+done-128 : sendNumber toy (0x01 ∷ []) toyTerms 128 (length (replicate {A = ℕ} 128 0)) ≡ 0
 unfolding sendings
 done-128 = ap (λ (l : List ℕ). getD l 0 0) sendings-answered
 
 -- "receiving the sent bits returns the block", and the octet behind it stays as it was
-pub accepted : {r : Written} {buf' : List ℕ} → Received toy 8 1 2 (unpacked p10Octets) (0x55 ∷ 0xAA ∷ []) r buf'
+pub accepted : {r : Written} {buf' : List ℕ} → Received toy 8 toyTerms (unpacked p10Octets) (0x55 ∷ 0xAA ∷ []) r buf'
     → (r .number ≡ 0) × (r .count ≡ 1) × (buf' ≡ 0x01 ∷ 0xAA ∷ [])
 unfolding p10Octets
 accepted {r} {buf'} v =
-    let s = sent-so toy (0x01 ∷ []) 1 2 128 (replicate 128 0) in
-    let o : List ℕ = whenDone (sendNumber toy (0x01 ∷ []) 1 2 128 128) (radioBits toy (blockBits 1) (transport (0x01 ∷ [])) 1 2 128 ++ drop 128 (replicate 128 0)) (replicate 128 0) in
+    let s = sent-so toy (0x01 ∷ []) toyTerms 128 (replicate 128 0) in
+    let o : List ℕ = whenDone (sendNumber toy (0x01 ∷ []) toyTerms 128 128) (radioBits toy (blockBits 1) (transport (0x01 ∷ [])) toyTerms 128 ++ drop 128 (replicate 128 0)) (replicate 128 0) in
     let is : take 128 o ≡ unpacked p10Octets = sent-front s done-128 ∙ sent-128 in
     let got = sent-returns (room-128 .direct) one-octet (lit≤ tt) s done-128
-    (subst (λ (l : List ℕ). Received toy 8 1 2 l (0x55 ∷ 0xAA ∷ []) r buf') (sym is) v) in
+    (subst (λ (l : List ℕ). Received toy 8 toyTerms l (0x55 ∷ 0xAA ∷ []) r buf') (sym is) v) in
     (got .0, got .1, got .3)
 
 -- the same for tenant 1, who has the toy record as number 7
-pub hosted-accepted : {r : Written} {buf' : List ℕ} → HostedReceived shelf bare 1 7 8 1 2 (unpacked p10Octets) (0x55 ∷ 0xAA ∷ []) r buf'
+pub hosted-accepted : {r : Written} {buf' : List ℕ} → HostedReceived shelf bare 1 7 8 toyTerms (unpacked p10Octets) (0x55 ∷ 0xAA ∷ []) r buf'
     → (r .number ≡ 0) × (r .count ≡ 1) × (buf' ≡ 0x01 ∷ 0xAA ∷ [])
 unfolding lookups
 hosted-accepted {r} {buf'} v =
     let z : lookupNumber shelf bare 1 7 ≡ 0 = ap (λ (l : List ℕ). getD l 0 0) lookups-answered in
-    accepted (subst (λ (R : List ℕ). Received R 8 1 2 (unpacked p10Octets) (0x55 ∷ 0xAA ∷ []) r buf') looked-up (v .found z))
+    accepted (subst (λ (R : List ℕ). Received R 8 toyTerms (unpacked p10Octets) (0x55 ∷ 0xAA ∷ []) r buf') looked-up (v .found z))
 
 -- ---- receptions that are refused with 14
 
-module _ (bits : List ℕ) (h : Roomy toy 1 1 2 (length bits)) (none : someOver 1 bits ≡ false) where
-  receivable : Receivable toy 1 1 2 bits
+module _ (bits : List ℕ) (h : Roomy toy 1 toyTerms (length bits)) (none : someOver 1 bits ≡ false) where
+  receivable : Receivable toy 1 toyTerms bits
   receivable =
       record {
         taken = h .taken;
-        allocated = allocated 1 2 (length bits) (blocks toy (blockBits 1)) (h .allocation) (plan-cut toy 1 (h .taken) .some);
+        allocated = allocated toyTerms (length bits) (blocks toy (blockBits 1)) (h .allocation) (plan-cut toy 1 (h .taken) .some);
         single = over-none-bits bits none;
         room = h .room;
       }
 
   -- only one list of transport bits can have been sent as them: where no block has it, or it is not sent as them, they are refused
-  refused : ((block : List ℕ) → transport block ≡ gathered toy (blockBits 1) 1 2 bits → radioBits toy (blockBits 1) (transport block) 1 2 (length bits) ≡ bits → ⊥)
-      → {buf : List ℕ} {r : Written} {buf' : List ℕ} → 1 ≤ length buf → Received toy 8 1 2 bits buf r buf' → r .number ≡ 14
+  refused : ((block : List ℕ) → transport block ≡ gathered toy (blockBits 1) toyTerms bits → radioBits toy (blockBits 1) (transport block) toyTerms (length bits) ≡ bits → ⊥)
+      → {buf : List ℕ} {r : Written} {buf' : List ℕ} → 1 ≤ length buf → Received toy 8 toyTerms bits buf r buf' → r .number ≡ 14
   refused other fits v =
       unsent-exactly h (over-none-bits bits none) fits v .1
       (λ block whole size out w out' s done e.
-      let is : radioBits toy (blockBits (length block)) (transport block) 1 2 (length bits) ≡ bits = sym (sent-front s done) ∙ e in
-      other block (block-gathered toy 1 1 2 bits receivable block size is)
-      (ap (λ (n : ℕ). radioBits toy (blockBits n) (transport block) 1 2 (length bits)) (sym size) ∙ is))
+      let is : radioBits toy (blockBits (length block)) (transport block) toyTerms (length bits) ≡ bits = sym (sent-front s done) ∙ e in
+      other block (block-gathered toy 1 toyTerms bits receivable block size is)
+      (ap (λ (n : ℕ). radioBits toy (blockBits n) (transport block) toyTerms (length bits)) (sym size) ∙ is))
 
 -- "the checksum": all ones
 unfoldable pub ones : List ℕ
 ones = replicate 128 1
 
-ones-gathered : testing.checks 24 crc.gen24A (gathered toy (blockBits 1) 1 2 ones) ≡ false
-unfolding ones toy gathered ownReceived shareStart joined share symbolPlaces symbolPlacesOf codedBitsOf numberAt digits readOn valueOf sumBelow firstBelow anyBelow reduce divideOn remainder
-    checksum attached kb m t z ceil blockBits kmax blocks ownBits testing.checks
+ones-gathered : testing.checks 24 crc.gen24A (gathered toy (blockBits 1) toyTerms ones) ≡ false
+unfolding ones toy gathered ownReceived shareStart joined share symbolPlaces placeBits symbolPlacesOf codedBitsOf numberAt digits readOn valueOf sumBelow firstBelow anyBelow reduce divideOn remainder
+    checksum attached kb m t z rows columns ceil blockBits kmax blocks ownBits testing.checks
 ones-gathered = refl
 
-pub ones-refused : {buf : List ℕ} {r : Written} {buf' : List ℕ} → 1 ≤ length buf → Received toy 8 1 2 ones buf r buf' → r .number ≡ 14
+pub ones-refused : {buf : List ℕ} {r : Written} {buf' : List ℕ} → 1 ≤ length buf → Received toy 8 toyTerms ones buf r buf' → r .number ≡ 14
 unfolding ones transport someOver
 ones-refused fits v =
     refused ones (room-128 .direct) refl
@@ -288,12 +288,12 @@ ones-refused fits v =
     fits v
 
 -- bits that are gathered as those of octet 01 are, but are not what it is sent as
-module _ (bits : List ℕ) (h : Roomy toy 1 1 2 (length bits)) (none : someOver 1 bits ≡ false)
-    (e : gathered toy (blockBits 1) 1 2 bits ≡ transport (0x01 ∷ [])) (other : radioBits toy (blockBits 1) (transport (0x01 ∷ [])) 1 2 (length bits) ≡ bits → ⊥) where
-  refused-one : {buf : List ℕ} {r : Written} {buf' : List ℕ} → 1 ≤ length buf → Received toy 8 1 2 bits buf r buf' → r .number ≡ 14
+module _ (bits : List ℕ) (h : Roomy toy 1 toyTerms (length bits)) (none : someOver 1 bits ≡ false)
+    (e : gathered toy (blockBits 1) toyTerms bits ≡ transport (0x01 ∷ [])) (other : radioBits toy (blockBits 1) (transport (0x01 ∷ [])) toyTerms (length bits) ≡ bits → ⊥) where
+  refused-one : {buf : List ℕ} {r : Written} {buf' : List ℕ} → 1 ≤ length buf → Received toy 8 toyTerms bits buf r buf' → r .number ≡ 14
   refused-one fits v =
       refused bits h none
-      (λ block q is. other (ap (λ (u : List ℕ). radioBits toy (blockBits 1) u 1 2 (length bits)) (sym e ∙ sym q) ∙ is))
+      (λ block q is. other (ap (λ (u : List ℕ). radioBits toy (blockBits 1) u toyTerms (length bits)) (sym e ∙ sym q) ∙ is))
       fits v
 
 -- "all parity rows": the bits of P10 with a parity bit of the first block turned over, the other blocks as they were
@@ -304,23 +304,23 @@ turned = set (unpacked p10Octets) 7 1
 unfoldable pub ended : List ℕ
 ended = unpacked p10Octets ++ (0 ∷ 1 ∷ [])
 
-turned-gathered : gathered toy (blockBits 1) 1 2 turned ≡ transport (0x01 ∷ [])
-unfolding turned p10Octets toy gathered ownReceived shareStart joined share symbolPlaces symbolPlacesOf codedBitsOf numberAt digits unpacked readOn valueOf sumBelow firstBelow anyBelow reduce divideOn
-    remainder checksum attached transport kb m t z ceil blockBits kmax blocks ownBits
+turned-gathered : gathered toy (blockBits 1) toyTerms turned ≡ transport (0x01 ∷ [])
+unfolding turned p10Octets toy gathered ownReceived shareStart joined share symbolPlaces placeBits symbolPlacesOf codedBitsOf numberAt digits unpacked readOn valueOf sumBelow firstBelow anyBelow reduce divideOn
+    remainder checksum attached transport kb m t z rows columns ceil blockBits kmax blocks ownBits
 turned-gathered = refl
 
-ended-gathered : gathered toy (blockBits 1) 1 2 ended ≡ transport (0x01 ∷ [])
-unfolding ended p10Octets toy gathered ownReceived shareStart joined share symbolPlaces symbolPlacesOf codedBitsOf numberAt digits unpacked readOn valueOf sumBelow firstBelow anyBelow reduce divideOn
-    remainder checksum attached transport kb m t z ceil blockBits kmax blocks ownBits
+ended-gathered : gathered toy (blockBits 1) toyTerms ended ≡ transport (0x01 ∷ [])
+unfolding ended p10Octets toy gathered ownReceived shareStart joined share symbolPlaces placeBits symbolPlacesOf codedBitsOf numberAt digits unpacked readOn valueOf sumBelow firstBelow anyBelow reduce divideOn
+    remainder checksum attached transport kb m t z rows columns ceil blockBits kmax blocks ownBits
 ended-gathered = refl
 
-pub turned-refused : {buf : List ℕ} {r : Written} {buf' : List ℕ} → 1 ≤ length buf → Received toy 8 1 2 turned buf r buf' → r .number ≡ 14
+pub turned-refused : {buf : List ℕ} {r : Written} {buf' : List ℕ} → 1 ≤ length buf → Received toy 8 toyTerms turned buf r buf' → r .number ≡ 14
 unfolding turned p10Octets digits unpacked someOver
 turned-refused fits v =
     refused-one turned (room-128 .direct) refl turned-gathered
     (λ e. let z : _≡_ {A = ℕ} 0 1 = ap (λ (l : List ℕ). getD l 7 0) (sym (sent-128) ∙ e) in omega arith) fits v
 
-pub ended-refused : {buf : List ℕ} {r : Written} {buf' : List ℕ} → 1 ≤ length buf → Received toy 8 1 2 ended buf r buf' → r .number ≡ 14
+pub ended-refused : {buf : List ℕ} {r : Written} {buf' : List ℕ} → 1 ≤ length buf → Received toy 8 toyTerms ended buf r buf' → r .number ≡ 14
 unfolding ended p10Octets digits unpacked someOver
 ended-refused fits v =
     refused-one ended (room-130 .direct) refl ended-gathered
@@ -334,18 +334,18 @@ doubled (x ∷ l) = x ∷ x ∷ doubled l
 unfoldable pub copied : List ℕ
 copied = set (unpacked (doubled p10Octets)) 255 1
 
-sent-256 : radioBits toy (blockBits 1) (transport (0x01 ∷ [])) 1 2 256 ≡ unpacked (doubled p10Octets)
-unfolding doubled toy p10Octets digits readOn valueOf unpacked numberAt symbolPlacesOf codedBitsOf sumBelow parityBelow allBelow anyBelow firstBelow reduce divideOn remainder checksum attached blockBits kb m t z
-    offset tableSize table entry ceil kmax blocks ownBits sizeIndexFor sizeIndex places filler square spread bitAt rowEven checks withParity checksWith coded transport ownStart own
+sent-256 : radioBits toy (blockBits 1) (transport (0x01 ∷ [])) toyTerms 256 ≡ unpacked (doubled p10Octets)
+unfolding doubled toy p10Octets digits readOn valueOf unpacked numberAt placeBits symbolPlacesOf codedBitsOf sumBelow parityBelow allBelow anyBelow firstBelow reduce divideOn remainder checksum attached blockBits kb m t z
+    offset rows columns tableSize table entry ceil kmax blocks ownBits sizeIndexFor sizeIndex places filler square spread bitAt rowEven checks withParity checksWith coded transport ownStart own
     withFiller systematic codedBlock symbolPlaces share kept listBelow matched blockSent joined padded radioBits
 sent-256 = refl
 
-copied-gathered : gathered toy (blockBits 1) 1 2 copied ≡ transport (0x01 ∷ [])
-unfolding doubled copied p10Octets toy gathered ownReceived shareStart joined share symbolPlaces symbolPlacesOf codedBitsOf numberAt digits unpacked readOn valueOf sumBelow firstBelow anyBelow reduce
-    divideOn remainder checksum attached transport kb m t z ceil blockBits kmax blocks ownBits
+copied-gathered : gathered toy (blockBits 1) toyTerms copied ≡ transport (0x01 ∷ [])
+unfolding doubled copied p10Octets toy gathered ownReceived shareStart joined share symbolPlaces placeBits symbolPlacesOf codedBitsOf numberAt digits unpacked readOn valueOf sumBelow firstBelow anyBelow reduce
+    divideOn remainder checksum attached transport kb m t z rows columns ceil blockBits kmax blocks ownBits
 copied-gathered = refl
 
-pub copied-refused : {buf : List ℕ} {r : Written} {buf' : List ℕ} → 1 ≤ length buf → Received toy 8 1 2 copied buf r buf' → r .number ≡ 14
+pub copied-refused : {buf : List ℕ} {r : Written} {buf' : List ℕ} → 1 ≤ length buf → Received toy 8 toyTerms copied buf r buf' → r .number ≡ 14
 unfolding doubled copied p10Octets digits unpacked someOver
 copied-refused fits v =
     refused-one copied (room-256 .direct) refl copied-gathered
@@ -353,9 +353,9 @@ copied-refused fits v =
 
 -- ---- the least G: octet 01 with the toy is 16 blocks of 8 bits, so 128 are the least that have room
 
-least-cut : cutNumber toy 1 1 2 ≡ 0
-unfolding cutNumber answered toy numberAt sumBelow allBelow anyBelow kb m t z offset tableSize table entry headerRight rises sizesRight offsetDue offsetsRight endsRight shiftRight
-    tableRight wellFormed filled filledBetween firstColumn nextDue nextColumn staircase staircases ceil blockBits kmax blocks misallocated
+least-cut : cutNumber toy 1 toyTerms 0 ≡ 0
+unfolding cutNumber answered toy numberAt sumBelow allBelow anyBelow kb m t z offset rows columns tableSize table entry headerRight rises sizesRight offsetDue offsetsRight endsRight shiftRight
+    tableRight wellFormed filled filledBetween firstColumn nextDue nextColumn staircase staircases ceil blockBits kmax blocks misallocated usable placeBits
 least-cut = refl
 
 least-count : blocks toy (blockBits 1) ≡ 16
@@ -363,10 +363,10 @@ unfolding toy numberAt kb t z ceil blockBits kmax blocks
 least-count = refl
 
 least-most : mostSendable toy 1 ≡ 8
-unfolding mostSendable sendable toy numberAt firstBelow anyBelow kb m t z ceil blockBits kmax blocks ownBits sizeIndexFor sizeIndex places filler
+unfolding mostSendable sendable toy numberAt firstBelow anyBelow kb m t z rows columns ceil blockBits kmax blocks ownBits sizeIndexFor sizeIndex places filler
 least-most = refl
 
-pub least-told : LeastRoom toy 1 1 2 (record { number = 0; bits = record { 0 = 128 }; blocks = 16; share = record { 0 = 8 } })
-unfolding ceil
+pub least-told : LeastRoom toy 1 toyTerms (record { number = 0; bits = record { 0 = 128 }; blocks = 16; share = record { 0 = 8 } })
+unfolding ceil placeBits
 least-told =
-    last-done toy 1 1 2 least-cut (rw (least-count, least-most) (omega arith)) _ refl (rw (least-count, least-most)) (rw least-count) (rw least-most)
+    last-done toy 1 toyTerms least-cut (rw (least-count, least-most) (omega arith)) _ refl (rw (least-count, least-most)) (rw least-count) (rw least-most)

@@ -1,6 +1,6 @@
 -- What the first demand says of a hosted call, from what it says of the call on the record that was found: once for all hosted calls.
 use mathlib.Core.Path.{_≡_, sym, ap, _∙_}
-use mathlib.Core.Bool.{Bool, true}
+use mathlib.Core.Bool.{Bool}
 use mathlib.Core.List.{List, [], _++_}
 use Prim.Native.Nat.{ℕ}
 use native.Mathlib.Omega.{arith}
@@ -10,12 +10,12 @@ use Rattle.bits.specs.declared.number.Written.{Written}
 use Rattle.bits.proofs.Answers.{Refusals, first-part, last-part, when-refused}
 use Rattle.bits.proofs.Ranges.{equal-or}
 use Rattle.profile.specs.Record.{kb, headerRight, wellFormed}
-use Rattle.profile.specs.Promises.{planNumber}
+use Rattle.cutting.specs.Promises.{planNumber}
 use Rattle.shelf.specs.Lookup.{lookupConditions, lookupNumber, lookupRecord}
 use Rattle.shelf.specs.Promises.{Hosted}
 use Rattle.demands.specs.Numbers.{Answers}
 use Rattle.demands.specs.Outputs.{Confined, Alike}
-use Rattle.demands.proofs.Lowest.{rising, answers}
+use Rattle.demands.proofs.Order.{answers}
 use Rattle.demands.proofs.Outputs.{untouched}
 
 -- nothing is no profile record
@@ -33,12 +33,12 @@ planned-found private public t p octets e =
 module _ {private public : List ℕ} {t p : ℕ} {promised : List ℕ → Type 0} {out : List ℕ} {r : Written} {o : List ℕ}
     (h : Hosted private public t p promised out r o) where
   -- lookup's numbers, and then those of the call on the record
-  pub hosted-answers : (last : List (ℕ × Bool)) → rising 0 (lookupConditions private public t p ++ last) ≡ true
+  pub hosted-answers : (last : List (ℕ × Bool)) → Refusals (lookupConditions private public t p ++ last)
       → (promised (lookupRecord private public t p) → r .number ≡ answered last) → Answers (r .number) (lookupConditions private public t p ++ last)
   unfolding lookupNumber Refusals
-  hosted-answers last up is =
+  hosted-answers last some is =
       let first = lookupConditions private public t p in
-      answers (first ++ last) up
+      answers (first ++ last) some
       (equal-or (answered first) 0
       (λ z. is (h .found z) ∙ sym (last-part first last tt z))
       (λ n. ap (λ (w : Written). w .number) (h .refused n .0) ∙ sym (first-part first last n)))

@@ -1,9 +1,11 @@
 pub mod Agreement
+pub mod Order
 pub mod Lowest
 pub mod Outputs
 pub mod Hosted
 pub mod Steps
 pub mod Demand1
+pub mod Rising
 pub mod Demand2
 pub mod Demand3
 pub mod Worked

@@ -2,7 +2,7 @@
 use mathlib.Core.Path.{_≡_, refl, sym, ap, ap₂, _∙_, subst}
 use mathlib.Core.Bool.{true, false, not}
 use mathlib.Core.List.{List, _++_}
-use Prim.Native.Nat.{ℕ, zero, suc, _+_, _-_, _*_, _%_, _≤_, _<_}
+use Prim.Native.Nat.{ℕ, zero, suc, _-_, _*_, _%_, _≤_, _<_}
 use native.Mathlib.Nat.{add-mul, suc-mul, zero-mul}
 use native.Mathlib.Omega.{arith}
 use borrow.Author.Tests.{not-false}
@@ -10,31 +10,34 @@ use lib.ListN.{length, getD, take, drop, replicate, length-append, length-replic
 use lib.Seq.{drop-at, take-all}
 use Rattle.bits.specs.Counts.{symbolPlacesOf, codedBitsOf}
 use Rattle.bits.specs.Ranges.{sumBelow}
+use Rattle.bits.specs.Bits.{withFiller}
+use Rattle.bits.specs.declared.count.Terms.{Terms}
 use Rattle.bits.proofs.Lists.{length-part}
 use Rattle.bits.proofs.Ranges.{none-any}
+use Rattle.bits.proofs.Listed.{length-list}
+use Rattle.bits.proofs.Sums.{sum-mono}
 use Rattle.checksum.specs.Crc.{attached}
-use Rattle.profile.specs.Record.{kb, m, z, table}
-use Rattle.profile.specs.Plan.{blockBits, blocks, ownBits, sizeIndex, places, filler}
-use Rattle.profile.specs.Promises.{planNumber}
-use Rattle.profile.proofs.Plans.{Cut, plan-passed, plan-cut}
+use Rattle.profile.specs.Record.{kb, rows, columns, z, table}
+use Rattle.profile.proofs.Shape.{columns-is}
+use Rattle.cutting.specs.Plan.{blockBits, blocks, ownBits, sizeIndex, places}
+use Rattle.cutting.specs.Promises.{planNumber}
+use Rattle.cutting.specs.Transport.{transport}
+use Rattle.cutting.specs.Cutting.{ownStart, own, systematic}
+use Rattle.cutting.proofs.Plans.{Cut, plan-passed, plan-cut}
+use Rattle.cutting.proofs.Transported.{length-transport, transport-bits}
 use Rattle.parity.specs.Matrix.{checks}
 use Rattle.parity.specs.Coded.{hasParity, coded}
 use Rattle.parity.proofs.Coded.{coded-length, coded-take, coded-bits, coded-checks, coded-unique}
 use Rattle.parity.proofs.Ready.{table-stairs}
-use Rattle.coding.specs.Transport.{transport}
-use Rattle.coding.specs.Cutting.{ownStart, own, systematic, withFiller}
+use Rattle.matching.specs.Matching.{kept, matched}
 use Rattle.coding.specs.Blocks.{blockHasParity, codedBlock, someWithoutParity}
 use Rattle.coding.specs.Allocation.{symbolPlaces, share}
-use Rattle.coding.specs.Matching.{kept, matched}
 use Rattle.coding.specs.Joining.{blockSent, joined, padded, radioBits}
 use Rattle.coding.proofs.Joining.{joined-part, joined-same, joined-cut}
-use Rattle.coding.proofs.Places.{length-list}
 use Rattle.coding.proofs.RoundTrip.{sent-length, sent-bits}
-use Rattle.coding.proofs.Shares.{sum-mono}
-use Rattle.coding.proofs.Transported.{length-transport, transport-bits}
 use Rattle.demands.specs.Steps.{blockCount, blockPlaces, blockIndex, blockShare, Word, Steps}
 
-module _ (R block : List ℕ) (nl qm g : ℕ) (taken : planNumber R (length block) ≡ 0) (parity : someWithoutParity R (blockBits (length block)) (transport block) ≡ false) where
+module _ (R block : List ℕ) (terms : Terms) (g : ℕ) (taken : planNumber R (length block) ≡ 0) (parity : someWithoutParity R (blockBits (length block)) (transport block) ≡ false) where
   abbrev u : List ℕ
   u = transport block
 
@@ -93,15 +96,15 @@ module _ (R block : List ℕ) (nl qm g : ℕ) (taken : planNumber R (length bloc
   abbrev word : ℕ → List ℕ
   word r = codedBlock R b u r
 
-  word-is : (r : ℕ) → word r ≡ coded (table R i) (kb R) (m R) (z R i) (sys r)
+  word-is : (r : ℕ) → word r ≡ coded (table R i) (rows R) (columns R) (z R i) (sys r)
   unfolding codedBlock systematic sys
   word-is r = refl
 
-  parity-is : (r : ℕ) → blockHasParity R b u r ≡ hasParity (table R i) (kb R) (m R) (z R i) (sys r)
+  parity-is : (r : ℕ) → blockHasParity R b u r ≡ hasParity (table R i) (rows R) (columns R) (z R i) (sys r)
   unfolding blockHasParity systematic sys
   parity-is r = refl
 
-  has-parity : (r : ℕ) → r < c → hasParity (table R i) (kb R) (m R) (z R i) (sys r) ≡ true
+  has-parity : (r : ℕ) → r < c → hasParity (table R i) (rows R) (columns R) (z R i) (sys r) ≡ true
   unfolding someWithoutParity
   has-parity r l =
       sym (parity-is r) ∙ not-false (blockHasParity R b u r) (none-any c (λ k. not (blockHasParity R b u k)) parity r l)
@@ -109,12 +112,12 @@ module _ (R block : List ℕ) (nl qm g : ℕ) (taken : planNumber R (length bloc
   -- ---- the radio bits
 
   abbrev e : ℕ
-  e = blockShare R (length block) nl qm g
+  e = blockShare R (length block) terms g
 
   f : ℕ → List ℕ
   f r = matched (word r) e
 
-  block-is : (r : ℕ) → blockSent R b u nl qm g r ≡ f r
+  block-is : (r : ℕ) → blockSent R b u terms g r ≡ f r
   unfolding f blockSent share codedBitsOf symbolPlaces symbolPlacesOf blockShare blockCount
   block-is r = refl
 
@@ -127,19 +130,19 @@ module _ (R block : List ℕ) (nl qm g : ℕ) (taken : planNumber R (length bloc
   f-joined zero = sym (zero-mul e)
   f-joined (suc n) = length-append (joined n f) (f n) ∙ omega (arith, f-joined n, f-size n, suc-mul n e)
 
-  sent-is : radioBits R b u nl qm g ≡ joined c f ++ replicate (g - c * e) 0
+  sent-is : radioBits R b u terms g ≡ joined c f ++ replicate (g - c * e) 0
   unfolding radioBits padded
   sent-is =
-      let front : joined c (blockSent R b u nl qm g) ≡ joined c f = joined-same (blockSent R b u nl qm g) f c (λ r l. block-is r) in
+      let front : joined c (blockSent R b u terms g) ≡ joined c f = joined-same (blockSent R b u terms g) f c (λ r l. block-is r) in
       ap (λ (l : List ℕ). l ++ replicate (g - length l) 0) front ∙ ap (λ (n : ℕ). joined c f ++ replicate (g - n) 0) (f-joined c)
 
-  block-stretch : (r : ℕ) → r < c → take e (drop (r * e) (radioBits R b u nl qm g)) ≡ f r
+  block-stretch : (r : ℕ) → r < c → take e (drop (r * e) (radioBits R b u terms g)) ≡ f r
   block-stretch r l =
       let part = joined-part f c r (replicate (g - c * e) 0) l in
       ap (λ (s : List ℕ). take e (drop (r * e) s)) sent-is
       ∙ ap₂ (λ (x y : ℕ). take x (drop y (joined c f ++ replicate (g - c * e) 0))) (sym (f-size r)) (sym (f-joined r)) ∙ part
 
-  zeros-last : drop (c * e) (radioBits R b u nl qm g) ≡ replicate (g - c * e) 0
+  zeros-last : drop (c * e) (radioBits R b u terms g) ≡ replicate (g - c * e) 0
   zeros-last = ap (drop (c * e)) sent-is ∙ drop-at (joined c f) (replicate (g - c * e) 0) (c * e) (f-joined c)
 
   word-coded : (r : ℕ) → r < c → Word R (length block) (own R b u r) (word r)
@@ -147,18 +150,18 @@ module _ (R block : List ℕ) (nl qm g : ℕ) (taken : planNumber R (length bloc
   word-coded r l =
       record {
         systematic = ap (take (places R b)) (word-is r)
-            ∙ ap (λ (n : ℕ). take n (coded (table R i) (kb R) (m R) (z R i) (sys r))) (cut .product)
-            ∙ coded-take (kb R) (m R) (z R i) (sys r) (sys-size r l) (table R i);
-        long = ap length (word-is r) ∙ coded-length (kb R) (m R) (z R i) (sys r) (sys-size r l) (table R i)
-            ∙ omega (arith, cut .product, add-mul (kb R) (m R) (z R i));
+            ∙ ap (λ (n : ℕ). take n (coded (table R i) (rows R) (columns R) (z R i) (sys r))) (cut .product)
+            ∙ coded-take (table R i) (rows R) (columns R) (z R i) (sys r) (kb R) (sys-size r l);
+        long = ap length (word-is r) ∙ coded-length (table R i) (rows R) (columns R) (z R i) (sys r) (kb R) (sys-size r l) (columns-is R)
+            ∙ omega (arith, cut .product, ap (λ (n : ℕ). n * z R i) (columns-is R), add-mul (kb R) (rows R) (z R i));
         parity = λ p h.
             subst (λ (w : List ℕ). getD w p 0 < 2) (sym (word-is r))
-            (coded-bits (kb R) (m R) (z R i) (sys r) (sys-size r l) (table R i) p (omega (arith, cut .product)));
-        checked = ap (checks (table R i) (m R) (kb R + m R) (z R i)) (word-is r)
-            ∙ coded-checks (kb R) (m R) (z R i) (sys r) (sys-size r l) (table R i) (has-parity r l);
+            (coded-bits (table R i) (rows R) (columns R) (z R i) (sys r) (kb R) (sys-size r l) p (omega (arith, cut .product)));
+        checked = ap (checks (table R i) (rows R) (columns R) (z R i)) (word-is r)
+            ∙ coded-checks (table R i) (rows R) (columns R) (z R i) (sys r) (has-parity r l);
       }
 
-  pub steps : Steps R block nl qm g (radioBits R b u nl qm g)
+  pub steps : Steps R block terms g (radioBits R b u terms g)
   unfolding blockCount blockBits transport attached mine ownStart f
   steps =
       record {
@@ -171,8 +174,8 @@ module _ (R block : List ℕ) (nl qm g : ℕ) (taken : planNumber R (length bloc
         coded = word-coded;
         stretch = block-stretch;
         rest = zeros-last;
-        long = sent-length R b u nl qm g;
-        single = sent-bits R b u nl qm g (transport-bits block);
+        long = sent-length R b u terms g;
+        single = sent-bits R b u terms g (transport-bits block);
       }
 
   -- ---- no other bits do
@@ -183,9 +186,9 @@ module _ (R block : List ℕ) (nl qm g : ℕ) (taken : planNumber R (length bloc
   word-only r w l h =
       let front : take (kb R * z R i) w ≡ sys r =
       ap (λ (n : ℕ). take n w) (sym (cut .product)) ∙ h .systematic in
-      coded-unique (kb R) (m R) (z R i) (sys r) (sys-size r l) (table R i)
+      coded-unique (table R i) (rows R) (columns R) (z R i) (sys r) (kb R) (sys-size r l)
       (table-stairs R (plan-passed R (length block) taken .0) i (cut .size)) w
-      (h .long ∙ omega (arith, cut .product, add-mul (kb R) (m R) (z R i))) front (λ p k. h .parity p (omega (arith, cut .product))) (h .checked) .1
+      (h .long ∙ omega (arith, cut .product, ap (λ (n : ℕ). n * z R i) (columns-is R), add-mul (kb R) (rows R) (z R i))) front (λ p k. h .parity p (omega (arith, cut .product))) (h .checked) .1
       ∙ sym (word-is r)
 
   shares : (n : ℕ) → sumBelow n (λ (r : ℕ). e) ≡ n * e
@@ -193,7 +196,7 @@ module _ (R block : List ℕ) (nl qm g : ℕ) (taken : planNumber R (length bloc
   shares zero = sym (zero-mul e)
   shares (suc n) = omega (arith, shares n, suc-mul n e)
 
-  pub steps-only : (bits : List ℕ) → Steps R block nl qm g bits → bits ≡ radioBits R b u nl qm g
+  pub steps-only : (bits : List ℕ) → Steps R block terms g bits → bits ≡ radioBits R b u terms g
   unfolding blockCount transport attached f
   steps-only bits s =
       let own-word : (r : ℕ) → r < c → s .word r ≡ word r =

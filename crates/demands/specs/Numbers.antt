@@ -1,10 +1,30 @@
--- What the first demand says of a call's number (document 01, "Numbers that are answered"). A list has the call's numbers, each with whether its
--- condition holds.
+-- What the first demand says of a call's number (document 01, "Numbers that are answered"). A list has the call's numbers in the order in which
+-- they are tested, each with whether its condition holds.
 use mathlib.Core.Path.{_≡_}
 use mathlib.Core.Bool.{Bool, true, false}
 use mathlib.Core.List.{List, [], _∷_}
 use mathlib.Core.Logic.{_⊎_}
 use Prim.Native.Nat.{ℕ, _<_}
+
+-- n is one of the numbers, its condition holds, and none that stands before it in the list does
+unfoldable pub First : ℕ → List (ℕ × Bool) → Type 0
+First n [] = ⊥
+First n ((k, c) ∷ l) = ((n ≡ k) × (c ≡ true)) ⊎ ((c ≡ false) × First n l)
+
+-- no condition holds
+unfoldable pub NoneHolds : List (ℕ × Bool) → Type 0
+NoneHolds [] = Unit
+NoneHolds ((k, c) ∷ l) = (c ≡ false) × NoneHolds l
+
+-- each number is given when its condition holds and none that stands before it does, and not otherwise; 0, done, is given when none holds, and not
+-- otherwise
+pub record Answers (number : ℕ) (l : List (ℕ × Bool)) : Type 0 where
+  pub given : (n : ℕ) → First n l → number ≡ n
+  pub only : (n : ℕ) → (n ≡ 0 → ⊥) → number ≡ n → First n l
+  pub done : NoneHolds l → number ≡ 0
+  pub only-done : number ≡ 0 → NoneHolds l
+
+-- ---- the lists of document 01 rise, so that there before means below
 
 -- n is one of the numbers, and its condition holds
 unfoldable pub Applies : ℕ → List (ℕ × Bool) → Type 0
@@ -16,14 +36,7 @@ unfoldable pub NoneBelow : ℕ → List (ℕ × Bool) → Type 0
 NoneBelow n [] = Unit
 NoneBelow n ((k, c) ∷ l) = (k < n → c ≡ false) × NoneBelow n l
 
--- no condition holds
-unfoldable pub NoneHolds : List (ℕ × Bool) → Type 0
-NoneHolds [] = Unit
-NoneHolds ((k, c) ∷ l) = (c ≡ false) × NoneHolds l
-
--- "Each is given when its condition holds and none below it does, and not otherwise"; 0, done, is given when none holds, and not otherwise
-pub record Answers (number : ℕ) (l : List (ℕ × Bool)) : Type 0 where
+-- "The lowest number that applies is answered": "Each is given when its condition holds and none below it does, and not otherwise"
+pub record Lowest (number : ℕ) (l : List (ℕ × Bool)) : Type 0 where
   pub given : (n : ℕ) → Applies n l → NoneBelow n l → number ≡ n
   pub only : (n : ℕ) → (n ≡ 0 → ⊥) → number ≡ n → (Applies n l) × (NoneBelow n l)
-  pub done : NoneHolds l → number ≡ 0
-  pub only-done : number ≡ 0 → NoneHolds l

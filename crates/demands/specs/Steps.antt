@@ -7,13 +7,15 @@ use mathlib.Core.List.{List, _++_}
 use Prim.Native.Nat.{ℕ, _+_, _-_, _*_, _/_, _≤_, _<_}
 use lib.ListN.{length, getD, take, drop, replicate}
 use Rattle.bits.specs.Bits.{AreBits, digits, unpacked}
+use Rattle.bits.specs.Counts.{placeBits}
+use Rattle.bits.specs.declared.count.Terms.{Terms}
 use Rattle.checksum.specs.Crc.{checksum, gen24A}
-use Rattle.profile.specs.Record.{kb, m, z, table}
-use Rattle.profile.specs.Plan.{blockBits, blocks, ownBits, sizeIndex, places}
+use Rattle.profile.specs.Record.{z, rows, columns, table}
+use Rattle.cutting.specs.Plan.{blockBits, blocks, ownBits, sizeIndex, places}
+use Rattle.cutting.specs.Cutting.{own}
 use Rattle.parity.specs.Matrix.{checks}
-use Rattle.coding.specs.Cutting.{own}
+use Rattle.matching.specs.Matching.{matched}
 use Rattle.coding.specs.Joining.{joined}
-use Rattle.coding.specs.Matching.{matched}
 
 -- C and K of a block of so many octets, which of the record's sizes is chosen for it, and "E = N_L·Q_m·floor(G'/C)"
 unfoldable pub blockCount : List ℕ → ℕ → ℕ
@@ -25,18 +27,18 @@ blockPlaces R octets = places R (blockBits octets)
 unfoldable pub blockIndex : List ℕ → ℕ → ℕ
 blockIndex R octets = sizeIndex R (blockBits octets)
 
-unfoldable pub blockShare : List ℕ → ℕ → ℕ → ℕ → ℕ → ℕ
-blockShare R octets nl qm g = nl * qm * (g / (nl * qm) / blockCount R octets)
+unfoldable pub blockShare : List ℕ → ℕ → Terms → ℕ → ℕ
+blockShare R octets terms g = placeBits terms * (g / placeBits terms / blockCount R octets)
 
 -- 3 and 4. w is the coded block of these own bits: "Places past a block's own bits, at its end, are filler"; "K systematic places and then m·z parity
 -- bits. It must check with filler read as 0. Filler places stay marked."
 pub record Word (R : List ℕ) (octets : ℕ) (mine w : List ℕ) : Type 0 where
   pub systematic : take (blockPlaces R octets) w ≡ mine ++ replicate (blockPlaces R octets - length mine) 2
-  pub long : length w ≡ blockPlaces R octets + m R * z R (blockIndex R octets)
+  pub long : length w ≡ blockPlaces R octets + rows R * z R (blockIndex R octets)
   pub parity : (p : ℕ) → blockPlaces R octets ≤ p → getD w p 0 < 2
-  pub checked : checks (table R (blockIndex R octets)) (m R) (kb R + m R) (z R (blockIndex R octets)) w ≡ true
+  pub checked : checks (table R (blockIndex R octets)) (rows R) (columns R) (z R (blockIndex R octets)) w ≡ true
 
-pub record Steps (R block : List ℕ) (nl qm g : ℕ) (bits : List ℕ) : Type 0 where
+pub record Steps (R block : List ℕ) (terms : Terms) (g : ℕ) (bits : List ℕ) : Type 0 where
   -- 1. "Append the 24 checksum bits of gCRC24A; B = A + 24"
   pub transport : List ℕ
   pub appended : transport ≡ unpacked block ++ digits 24 (checksum 24 gen24A (unpacked block))
@@ -51,11 +53,11 @@ pub record Steps (R block : List ℕ) (nl qm g : ℕ) (bits : List ℕ) : Type 0
   -- 5. "Every block is given E .. bits"; 6. they "are its coded places in order from the first, filler skipped, starting again at the first after the
   -- last", and go into its own stretch
   pub stretch : (r : ℕ) → r < blockCount R (length block)
-      → take (blockShare R (length block) nl qm g) (drop (r * blockShare R (length block) nl qm g) bits)
-      ≡ matched (word r) (blockShare R (length block) nl qm g)
+      → take (blockShare R (length block) terms g) (drop (r * blockShare R (length block) terms g) bits)
+      ≡ matched (word r) (blockShare R (length block) terms g)
   -- 5. "The G − C·E places left at the end hold 0."
-  pub rest : drop (blockCount R (length block) * blockShare R (length block) nl qm g) bits
-      ≡ replicate (g - blockCount R (length block) * blockShare R (length block) nl qm g) 0
+  pub rest : drop (blockCount R (length block) * blockShare R (length block) terms g) bits
+      ≡ replicate (g - blockCount R (length block) * blockShare R (length block) terms g) 0
   -- and they are G, each 0 or 1
   pub long : length bits ≡ g
   pub single : AreBits bits

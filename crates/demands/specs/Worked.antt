@@ -4,12 +4,13 @@ use mathlib.Core.Bool.{cond}
 use mathlib.Core.List.{List, [], _∷_, _++_}
 use Prim.Native.Nat.{ℕ}
 use Rattle.bits.specs.Bits.{unpacked}
+use Rattle.bits.specs.declared.count.Terms.{Terms}
 use Rattle.checksum.specs.Crc.{checksum, gen24A, gen16, gen8}
-use Rattle.profile.specs.Record.{kb, m, z, table}
-use Rattle.profile.specs.Plan.{blockBits, blocks}
+use Rattle.profile.specs.Record.{z, rows, columns, table}
+use Rattle.cutting.specs.Plan.{blockBits, blocks}
+use Rattle.cutting.specs.Transport.{transport}
 use Rattle.parity.specs.Coded.{hasParity, coded}
 use Rattle.coding.specs.Allocation.{share}
-use Rattle.coding.specs.Transport.{transport}
 use Rattle.coding.specs.Joining.{radioBits}
 
 -- "The toy record has kb 1, m 3, one z of 2; in hex, 22 octets"
@@ -25,11 +26,15 @@ p10Octets =
 
 -- a toy code word: the places with the parity bits that the toy record gives them, or nothing where it gives none
 unfoldable pub toyWord : List ℕ → List ℕ
-toyWord places = cond (hasParity (table toy 0) (kb toy) (m toy) (z toy 0) places) (coded (table toy 0) (kb toy) (m toy) (z toy 0) places) []
+toyWord places = cond (hasParity (table toy 0) (rows toy) (columns toy) (z toy 0) places) (coded (table toy 0) (rows toy) (columns toy) (z toy 0) places) []
 
--- octet 01 with the toy, N_L 1 and Q_m 2: B, C, E and the bits
+-- "N_L 1, Q_m 2"
+abbrev pub toyTerms : Terms
+toyTerms = record { nl = 1; qm = 2 }
+
+-- octet 01 with the toy: B, C, E and the bits
 unfoldable pub toySent : ℕ → List ℕ
-toySent g = blockBits 1 ∷ blocks toy (blockBits 1) ∷ share 1 2 g (blocks toy (blockBits 1)) 0 .0 ∷ radioBits toy (blockBits 1) (transport (0x01 ∷ [])) 1 2 g
+toySent g = blockBits 1 ∷ blocks toy (blockBits 1) ∷ share toyTerms g (blocks toy (blockBits 1)) 0 .0 ∷ radioBits toy (blockBits 1) (transport (0x01 ∷ [])) toyTerms g
 
 pub record Case : Type 0 where
   pub computed : List ℕ

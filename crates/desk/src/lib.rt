@@ -1,52 +1,47 @@
 // The desk: the engineer's commands, from the words of the command line to the exit status.
-mod argv;
-mod day;
-mod files;
 mod help;
-mod least;
-mod lookup;
-mod meanings;
-mod page;
+mod numbers;
 mod plan;
-mod receive;
-mod refusal;
 mod replay;
-mod send;
-mod status;
 
-use argv::Command;
+use console::argv;
+use console::argv::Words;
+use console::list;
+use hosted::lookup;
+use hosted::receive;
+use hosted::send;
 
 // Runs the command that the words ask for, and answers the exit status.
-#[no_mangle]
-pub extern "C" fn kuambyte_run() -> i32 {
-    let command = argv::wanted();
-    if argv::is_word(2, b"--help") {
-        return help::of(command);
+pub fn run() -> i32 {
+    if os::arg_count() < 2 {
+        return help::missing();
     }
-    run(command)
+    let mut word = io::buffer();
+    let n = os::arg(1, &mut word);
+    let names = b"send
+receive
+lookup
+plan
+day
+numbers
+replay
+help
+--help
+";
+    command(list::find(names, &word[..n]), argv::all_words())
 }
 
-fn run(command: Command) -> i32 {
-    match command {
-        Command::None => help::missing(),
-        Command::Unknown => help::unknown(),
-        Command::Send => send::run(argv::all_words()),
-        Command::Receive => receive::run(argv::all_words()),
-        Command::Lookup => lookup::run(argv::all_words()),
-        Command::Plan => plan::run(argv::all_words()),
-        _ => run_alone(command),
-    }
-}
-
-// The commands that take no words.
-fn run_alone(command: Command) -> i32 {
-    if os::arg_count() > 2 {
-        return help::wrong(command, b"this command takes no words");
-    }
-    match command {
-        Command::Day => day::run(),
-        Command::Numbers => meanings::numbers(),
-        Command::Replay => replay::replay(),
-        _ => help::all(),
+// An arm for each line of that list.
+fn command(line: usize, words: Words) -> i32 {
+    match line {
+        0 => send::run(words),
+        1 => receive::run(words),
+        2 => lookup::run(words),
+        3 => plan::run(words),
+        4 => day::run(words),
+        5 => numbers::run(words),
+        6 => replay::run(words),
+        7 | 8 => help::run(words),
+        _ => help::unknown(),
     }
 }

@@ -1,61 +1,73 @@
 // The command `plan`: how a block is cut, as a table.
-use crate::argv;
-use crate::argv::Command;
-use crate::argv::Parameters;
-use crate::argv::Words;
-use crate::files;
-use crate::help;
-use crate::least;
-use crate::page;
-use crate::refusal;
-use crate::status;
 use bits::number::DONE;
 use bits::number::NO_ROOM;
-use profile::Plan;
+use console::argv;
+use console::argv::Words;
+use console::files;
+use console::help;
+use console::page;
+use console::status;
+use cutting::Plan;
+use hosted::asked;
+use hosted::asked::Parameters;
+use hosted::calls;
+use hosted::least;
+use hosted::refusal;
 use text::octets;
-ghost use Prim.Native.Nat.{_≤_};
 ghost use mathlib.Core.Path.{_≡_};
-ghost use lib.ListN.{length};
-ghost use Rattle.profile.specs.Plan.{blockBits, blocks, ownBits, filler};
-ghost use Rattle.profile.specs.Promises.{planned};
-ghost use Rattle.coding.specs.Blocks.{sendable};
+ghost use Rattle.cutting.specs.Promises.{planned};
+ghost use Rattle.desk.specs.Parts.{PartOf};
 
 pub fn run(words: Words) -> i32 {
-    if words.text {
-        return help::wrong(
-            Command::Plan,
-            b"a record is octets, so --text has no place here",
-        );
+    if words.help {
+        return say(words, b"");
     }
-    if words.count != 2 {
-        if words.count != 4 {
-            return help::wrong(Command::Plan, b"this command takes two words or four");
-        }
+    if argv::has_other(b"") {
+        return say(words, b"a record is octets, so --text has no place here");
     }
-    let asked = argv::for_plan(words);
-    if asked.bad {
-        return help::usage_only(Command::Plan);
+    let count = words.count;
+    match count {
+        2 | 4 => read(words, asked::for_plan(count)),
+        _ => say(words, b"this command takes two words or four"),
     }
-    let mut record = io::large_buffer();
-    read(words, asked, &mut record)
 }
 
-fn read(words: Words, asked: Parameters, store: &mut [u8]) -> i32 {
-    let file = files::named(words, 0, store);
+fn say(words: Words, why: &[u8]) -> i32 {
+    help::say(
+        words.help,
+        why,
+        b"usage: kuambyte plan RECORD OCTETS [LAYERS ORDER]
+
+Writes how a transport block of OCTETS octets is cut: B, C, z and K, each code block's own bits, filler and N, and the least G
+with which every code block has room for all its coded bits.
+
+  RECORD   a file with a profile record, as kuambyte lookup writes it
+  OCTETS   A/8, the octets of the block: 1 to 2048
+  LAYERS   N_L, 1 to 4; 1 where it is not given
+  ORDER    Q_m, the bits of a symbol: 2, 4 or 6; 2 where it is not given
+",
+    )
+}
+
+fn read(words: Words, asked: Parameters) -> i32 {
+    if asked.bad {
+        return say(words, b"");
+    }
+    let mut record = io::large_buffer();
+    let file = files::named(0, &mut record);
     if file.failed {
         return status::FAILED;
     }
-    let n = file.count;
-    answer(&store[0..n], asked)
+    answer(octets::first(&record, file.count), asked)
 }
 
 // The numbers of the least G go first: 8 stands before 9. Where no G has room, the cutting is shown all the same.
 fn answer(record: &[u8], asked: Parameters) -> i32 {
-    let number = advice::least_bits(record, asked.octets, asked.nl, asked.qm).number;
+    let number = calls::least(record, asked).number;
     if is_refused(number) {
         return refusal::write(number, record, asked);
     }
-    let plan = profile::plan_block(record, asked.octets);
+    let plan = cutting::plan_block(record, asked.octets);
     if plan.number != DONE {
         return refusal::write(plan.number, record, asked);
     }
@@ -73,26 +85,19 @@ fn is_refused(number: u32) -> bool {
 
 fn put(profile: &[u8], plan: Plan, asked: Parameters, page: &mut [u8]) -> usize
     requires { ⌜ (plan .number ≡ 0) × (plan ≡ planned (now profile) (asked .octets)) ⌝ }
-    ensures { λ r. ⌜ r ≤ length (now (page .entry)) ⌝ }
 {
-    let a = head(plan, page);
+    let a = page::form(
+        b"B #  C #  z #  K #\n\nblock  own bits  filler     N\n",
+        &[plan.bits, plan.blocks, plan.z, plan.places],
+        page,
+        0,
+    );
     let b = rows(profile, plan, asked.octets, page, a);
     foot(profile, asked, page, b)
 }
 
-fn head(plan: Plan, page: &mut [u8]) -> usize
-    ensures { λ r. ⌜ r ≤ length (now (page .entry)) ⌝ }
-{
-    let a = page::field(b"B ", plan.bits, page, 0);
-    let b = page::field(b"  C ", plan.blocks, page, a);
-    let c = page::field(b"  z ", plan.z, page, b);
-    let d = page::field(b"  K ", plan.places, page, c);
-    page::put(b"\n\nblock  own bits  filler     N\n", page, d)
-}
-
 fn rows(profile: &[u8], plan: Plan, octets: usize, page: &mut [u8], from: usize) -> usize
-    requires { ⌜ (plan .number ≡ 0) × (plan ≡ planned (now profile) octets) × (from ≤ length (now page)) ⌝ }
-    ensures { λ r. ⌜ r ≤ length (now (page .entry)) ⌝ }
+    requires { ⌜ (plan .number ≡ 0) × (plan ≡ planned (now profile) octets) ⌝ }
 {
     let mut at = from;
     let mut r = 0;
@@ -115,24 +120,19 @@ pub struct Part {
 // Block r's part, counted from 0.
 fn part_of(profile: &[u8], plan: Plan, octets: usize, r: usize) -> Part
     requires { ⌜ (plan .number ≡ 0) × (plan ≡ planned (now profile) octets) ⌝ }
-    ensures { λ p. ⌜ (p .own ≡ ownBits (blockBits octets) (blocks (now (profile .entry)) (blockBits octets)) r) × (p .filler ≡ filler (now (profile .entry)) (blockBits octets) r) × (p .sendable ≡ sendable (now (profile .entry)) (blockBits octets) r) ⌝ }
+    ensures { λ p. ⌜ PartOf (now (profile .entry)) octets r p ⌝ }
 {
-    let kb = profile::inner::kb(profile);
-    let m = profile::inner::m(profile);
-    let own = profile::inner::own_bits(plan.bits, plan.blocks, r);
+    let own = cutting::inner::own_bits(plan.bits, plan.blocks, r);
     let filler = plan.places - own;
-    let sendable = (kb + m) * plan.z - filler;
+    let sendable = coding::inner::sendable(profile, plan, r);
     Part {
         own,
         filler,
-        sendable,
+        sendable: sendable.0,
     }
 }
 
-fn row(number: usize, part: Part, page: &mut [u8], at: usize) -> usize
-    requires { ⌜ at ≤ length (now page) ⌝ }
-    ensures { λ r. ⌜ r ≤ length (now (page .entry)) ⌝ }
-{
+fn row(number: usize, part: Part, page: &mut [u8], at: usize) -> usize {
     let a = page::right(number, 5, page, at);
     let b = page::right(part.own, 10, page, a);
     let c = page::right(part.filler, 8, page, b);
@@ -140,13 +140,13 @@ fn row(number: usize, part: Part, page: &mut [u8], at: usize) -> usize
     page::put(b"\n", page, d)
 }
 
-fn foot(profile: &[u8], asked: Parameters, page: &mut [u8], at: usize) -> usize
-    requires { ⌜ at ≤ length (now page) ⌝ }
-    ensures { λ r. ⌜ r ≤ length (now (page .entry)) ⌝ }
-{
-    let a = page::field(b"\nwith N_L ", asked.nl, page, at);
-    let b = page::field(b" and Q_m ", asked.qm, page, a);
-    let c = page::put(b", ", page, b);
-    let d = least::put(profile, asked, b" room", page, c);
-    page::put(b"\n", page, d)
+fn foot(profile: &[u8], asked: Parameters, page: &mut [u8], at: usize) -> usize {
+    let a = page::form(
+        b"\nwith N_L # and Q_m #, ",
+        &[asked.terms.nl, asked.terms.qm],
+        page,
+        at,
+    );
+    let b = least::put(profile, asked, b" room", page, a);
+    page::put(b"\n", page, b)
 }

@@ -1,244 +1,34 @@
 // The command `replay`: requests are read from standard input and answered on standard output.
-use crate::status;
-use libc::STDIN_FILENO;
-use libc::STDOUT_FILENO;
-use requests::answers;
-use requests::lines;
-use text::octets;
-ghost use Prim.Native.Nat.{_≤_, _<_};
-ghost use mathlib.Core.Path.{_≡_};
-ghost use lib.ListN.{length};
-ghost use Rattle.desk.specs.Room.{Stands};
-ghost use Rattle.requests.specs.Room.{Roomy};
+use console::argv::Words;
+use console::help;
 
-// The octets of the longest line, its newline not counted.
-const LINE_ROOM: usize = 600_000;
-// The octets of two shelves or records of the longest kind, of the longest word of bits, and of the
-// longest output that is lent to a call.
-const RECORDS_ROOM: usize = 140_000;
+pub fn run(words: Words) -> i32 {
+    if words.none {
+        return stream::replay();
+    }
+    help::say(
+        words.help,
+        b"this command takes no words",
+        b"usage: kuambyte replay < requests > answers
 
-const BITS_ROOM: usize = 140_000;
+Reads requests, one to a line, and writes an answer to each. Requests, and what is answered behind the number:
 
-const LENT_ROOM: usize = 140_000;
-// The octets of answers that wait to be written together: one has up to two digits for each octet
-// that is lent.
-const OUT_ROOM: usize = 400_000;
+  crc WIDTH BITS                     the checksum of the bits
+  crcoct WIDTH PACKED                the checksum of packed octets
+  profile RECORD                     nothing: the number says whether the record is a profile
+  plan RECORD OCTETS                 how a block of so many octets is cut: B, C, K and z
+  encode RECORD Z PLACES OUTLEN      the places of a code block, with its parity bits
+  check RECORD Z BITS                1 if the bits are a word that checks, else 0
+  rate E PLACES OUTLEN               the bits that are sent of a coded block
+  send RECORD BLOCK NL QM G OUTLEN   the bits that are sent of a block
+  recv RECORD A NL QM BITS OUTLEN    the block that was sent as these bits
+  lookup SHELVES TENANT PROFILE      which shelf has the record, where it starts and its length
+  hsend SHELVES TENANT PROFILE ..    as send, with the record that the tenant is given
+  hrecv SHELVES TENANT PROFILE ..    as recv, with the record that the tenant is given
 
-// How far reading has come.
-pub struct Reading {
-    // Octets of the line begun that are held.
-    pub held: usize,
-    // Whether that line has more octets than there is room for.
-    pub long: bool,
-    // Octets of the output that wait to be written.
-    pub waiting: usize,
-    // Whether the input has ended, or reading or writing has failed.
-    pub done: bool,
-    // Whether reading or writing has failed.
-    pub failed: bool,
-}
+SHELVES are two words, PRIVATE and PUBLIC; behind PROFILE the words of send and recv behind RECORD.
 
-pub fn replay() -> i32 {
-    let mut line = [0u8; LINE_ROOM];
-    let mut records = [0u8; RECORDS_ROOM];
-    let mut bits = [0u8; BITS_ROOM];
-    let mut lent = [0u8; LENT_ROOM];
-    let mut chunk = io::large_buffer();
-    let mut out = [0u8; OUT_ROOM];
-    read_all(
-        &mut line,
-        &mut records,
-        &mut bits,
-        &mut lent,
-        &mut chunk,
-        &mut out,
+docs/REQUESTS.md describes requests, their words and the answers.
+",
     )
-}
-
-// A proved loop has to end, and nothing says that the input does. So the turns are counted down
-// from a number that no run uses up.
-fn read_all(
-    line: &mut [u8],
-    records: &mut [u8],
-    bits: &mut [u8],
-    lent: &mut [u8],
-    chunk: &mut [u8],
-    out: &mut [u8],
-) -> i32
-    requires { ⌜ (0 < length (now chunk)) × Roomy 0 (now lent) (now out) ⌝ }
-{
-    let mut reading = Reading {
-        held: 0,
-        long: false,
-        waiting: 0,
-        done: false,
-        failed: false,
-    };
-    let mut turns = u64::MAX;
-    while turns > 0 {
-        reading = read_some(line, records, bits, lent, chunk, out, reading);
-        if reading.done {
-            return ended(reading.failed);
-        }
-        turns -= 1;
-    }
-    status::DONE
-}
-
-// The exit status.
-fn ended(failed: bool) -> i32 {
-    if failed {
-        return status::FAILED;
-    }
-    status::DONE
-}
-
-// Reads once, and answers each line that has ended.
-fn read_some(
-    line: &mut [u8],
-    records: &mut [u8],
-    bits: &mut [u8],
-    lent: &mut [u8],
-    chunk: &mut [u8],
-    out: &mut [u8],
-    reading: Reading,
-) -> Reading
-    requires { ⌜ (0 < length (now chunk)) × Stands reading (now line) (now lent) (now out) ⌝ }
-    ensures { λ r. ⌜ Stands r (now (line .entry)) (now (lent .entry)) (now (out .entry)) ⌝ }
-{
-    let got = libc::read(STDIN_FILENO, chunk);
-    let n = received(got, chunk);
-    let after = answer_lines(&chunk[0..n], line, records, bits, lent, out, reading);
-    finish(got, out, after)
-}
-
-// How many octets came. The end of the input ends the last line, as a newline would.
-fn received(got: isize, chunk: &mut [u8]) -> usize
-    requires { ⌜ 0 < length (now chunk) ⌝ }
-    ensures { λ r. ⌜ r ≤ length (now (chunk .entry)) ⌝ }
-{
-    if got > 0 {
-        return io::count(got, chunk);
-    }
-    chunk[0] = b'\n';
-    1
-}
-
-// Writes what waits before the next read, so that who types requests sees each answer at once. A
-// read that failed is reported behind the answers.
-fn finish(got: isize, out: &[u8], reading: Reading) -> Reading
-    requires { ⌜ reading .waiting ≤ length (now out) ⌝ }
-    ensures { λ r. ⌜ (r .held ≡ reading .held) × (r .waiting ≡ 0) ⌝ }
-{
-    let mut after = flush(out, reading);
-    if after.done {
-        return after;
-    }
-    after.failed = has_failed(got);
-    after.done = got <= 0;
-    after
-}
-
-// Whether reading failed; the reason is said.
-fn has_failed(got: isize) -> bool {
-    if got < 0 {
-        os::fail(b"kuambyte: standard input");
-    }
-    got < 0
-}
-
-// Answers each line that ends in the chunk, and holds what stands behind the last.
-fn answer_lines(
-    chunk: &[u8],
-    line: &mut [u8],
-    records: &mut [u8],
-    bits: &mut [u8],
-    lent: &mut [u8],
-    out: &mut [u8],
-    mut reading: Reading,
-) -> Reading
-    requires { ⌜ Stands reading (now line) (now lent) (now out) ⌝ }
-    ensures { λ r. ⌜ Stands r (now (line .entry)) (now (lent .entry)) (now (out .entry)) ⌝ }
-{
-    let mut from = 0;
-    while from < chunk.len() {
-        let end = octets::find(chunk, from, b'\n');
-        reading = hold(&chunk[from..end], line, reading);
-        if end == chunk.len() {
-            return reading;
-        }
-        reading = answer_line(line, records, bits, lent, out, reading);
-        if reading.done {
-            return reading;
-        }
-        from = end + 1;
-    }
-    reading
-}
-
-// Holds as much of a piece of the line as there is room for.
-fn hold(piece: &[u8], line: &mut [u8], mut reading: Reading) -> Reading
-    requires { ⌜ reading .held ≤ length (now line) ⌝ }
-    ensures { λ r. ⌜ (r .held ≤ length (now (line .entry))) × (r .waiting ≡ reading .waiting) ⌝ }
-{
-    let held = reading.held;
-    let n = octets::least(piece.len(), line.len() - held);
-    reading.held = octets::put(&piece[0..n], line, held);
-    if n < piece.len() {
-        reading.long = true;
-    }
-    reading
-}
-
-// Answers the line that is held, and begins the next.
-fn answer_line(
-    line: &[u8],
-    records: &mut [u8],
-    bits: &mut [u8],
-    lent: &mut [u8],
-    out: &mut [u8],
-    reading: Reading,
-) -> Reading
-    requires { ⌜ Stands reading (now line) (now lent) (now out) ⌝ }
-    ensures { λ r. ⌜ Stands r (now (line .entry)) (now (lent .entry)) (now (out .entry)) ⌝ }
-{
-    let ready = with_room(lent, out, reading);
-    if ready.done {
-        return ready;
-    }
-    let held = ready.held;
-    let answer = lines::answer(&line[0..held], ready.long, records, bits, lent);
-    Reading {
-        held: 0,
-        long: false,
-        waiting: answers::put(answer, lent, out, ready.waiting),
-        done: false,
-        failed: false,
-    }
-}
-
-// Makes room for one more answer.
-fn with_room(lent: &[u8], out: &[u8], reading: Reading) -> Reading
-    requires { ⌜ (reading .waiting ≤ length (now out)) × Roomy 0 (now lent) (now out) ⌝ }
-    ensures { λ r. ⌜ (r .held ≡ reading .held) × Roomy (r .waiting) (now (lent .entry)) (now (out .entry)) ⌝ }
-{
-    if out.len() - reading.waiting < answers::room(lent) {
-        return flush(out, reading);
-    }
-    reading
-}
-
-fn flush(out: &[u8], mut reading: Reading) -> Reading
-    requires { ⌜ reading .waiting ≤ length (now out) ⌝ }
-    ensures { λ r. ⌜ (r .held ≡ reading .held) × (r .waiting ≡ 0) ⌝ }
-{
-    let n = reading.waiting;
-    reading.waiting = 0;
-    if io::write_all(STDOUT_FILENO, &out[0..n]) {
-        return reading;
-    }
-    os::fail(b"kuambyte: standard output");
-    reading.done = true;
-    reading.failed = true;
-    reading
 }

@@ -5,8 +5,8 @@ use mathlib.Core.List.{List}
 use Prim.Native.Nat.{ℕ}
 use Rattle.bits.specs.declared.number.Written.{Written}
 use Rattle.bits.proofs.Written.{same-written}
-use Rattle.parity.specs.declared.Verdict.{Verdict}
 use Rattle.parity.specs.Promises.{BlockCoded, WordChecked}
+use Rattle.parity.specs.declared.Verdict.{Verdict}
 
 verdict : ℕ → Bool → Verdict
 verdict n b = record { number = n; checks = b }

@@ -1,8 +1,8 @@
 -- What the public calls answer, by their tests.
-use mathlib.Core.Path.{_≡_, refl, sym, ap, ap₂, _∙_}
+use mathlib.Core.Path.{_≡_, refl, sym, ap, _∙_}
 use mathlib.Core.Bool.{Bool, true, false, not, _||_}
 use mathlib.Core.List.{List, [], _∷_, _++_}
-use Prim.Native.Nat.{ℕ, _+_, _*_, _≤_, _<_}
+use Prim.Native.Nat.{ℕ, _*_, _≤_, _<_}
 use native.Mathlib.Omega.{arith}
 use lib.Dec.{eqb, ltb, lit<}
 use lib.ListN.{length, drop}
@@ -12,8 +12,9 @@ use Rattle.bits.specs.Numbers.{answered}
 use Rattle.bits.specs.Ranges.{anyBelow, firstBelow}
 use Rattle.bits.proofs.Answers.{applies, passes, passed, first-part, Refusals, last-part, none-left, when-done, when-refused}
 use Rattle.bits.proofs.Ranges.{equal-or, first-some, first-none}
-use Rattle.profile.specs.Record.{kb, m, t, z}
+use Rattle.profile.specs.Record.{kb, t, z, rows, columns}
 use Rattle.profile.specs.Promises.{judgeConditions, judged}
+use Rattle.profile.proofs.Answers.{judged-first, judged-passed}
 use Rattle.parity.specs.Matrix.{checks}
 use Rattle.parity.specs.Coded.{hasParity, coded}
 use Rattle.parity.specs.Promises.{hasSize, tableFor, unfit, blockConditions, codeNumber, BlockCoded, checkNumber, WordChecked}
@@ -60,78 +61,69 @@ module _ (R : List ℕ) (z' : ℕ) where
 
 -- ---- 5 and 6 as the profile is judged, then the others
 
-module _ (R : List ℕ) (rest : List (ℕ × Bool)) where
-  refused-first : (judged R ≡ 0 → ⊥) → answered (judgeConditions R ++ rest) ≡ judged R
-  unfolding judged
-  refused-first n = first-part (judgeConditions R) rest n
-
-  judged-first : judged R ≡ 0 → answered (judgeConditions R ++ rest) ≡ answered rest
-  unfolding judged Refusals
-  judged-first e = last-part (judgeConditions R) rest tt e
-
-  done-first : answered (judgeConditions R ++ rest) ≡ 0 → (judged R ≡ 0) × (answered rest ≡ 0)
-  done-first e =
-      equal-or (judged R) 0 (λ q. (q, sym (judged-first q) ∙ e)) (λ n. absurd (n (sym (refused-first n) ∙ e)))
+done-first : (R : List ℕ) (rest : List (ℕ × Bool)) → answered (judgeConditions R ++ rest) ≡ 0 → (judged R ≡ 0) × (answered rest ≡ 0)
+done-first R rest e =
+    equal-or (judged R) 0 (λ q. (q, sym (judged-passed R rest q) ∙ e)) (λ n. absurd (n (sym (judged-first R rest n) ∙ e)))
 
 -- ---- the numbers before coding
 
 module _ (R : List ℕ) (z' : ℕ) (places : List ℕ) (room : ℕ) where
   abbrev others : List (ℕ × Bool)
-  others = (8, unfit R z' (kb R) places) ∷ (11, ltb room ((kb R + m R) * z')) ∷ (12, someOver 2 places) ∷ []
+  others = (8, unfit R z' (kb R) places) ∷ (11, ltb room (columns R * z')) ∷ (12, someOver 2 places) ∷ []
 
-  -- what the code answers, by what it found: j the profile's number, k and n its kb and m, u and o the tests of 8 and 12
+  -- what the code answers, by what it found: j the profile's number, k and c its kb and columns, u and o the tests of 8 and 12
   module _ (j : ℕ) (found : j ≡ judged R) where
     pub block-judged : (j ≡ 0 → ⊥) → j ≡ blockNumber R z' places room
     unfolding blockNumber
-    block-judged h = found ∙ sym (refused-first R others (λ q. h (found ∙ q)))
+    block-judged h = found ∙ sym (judged-first R others (λ q. h (found ∙ q)))
 
-    module _ (done : j ≡ 0) (k n : ℕ) (kb-is : k ≡ kb R) (m-is : n ≡ m R) (u : Bool) (fit : u ≡ unfit R z' k places) where
+    module _ (done : j ≡ 0) (k c : ℕ) (k-is : k ≡ kb R) (c-is : c ≡ columns R) (u : Bool) (fit : u ≡ unfit R z' k places) where
       fit-is : {b : Bool} → u ≡ b → unfit R z' (kb R) places ≡ b
-      fit-is e = ap (λ (x : ℕ). unfit R z' x places) (sym kb-is) ∙ sym fit ∙ e
+      fit-is e = ap (λ (x : ℕ). unfit R z' x places) (sym k-is) ∙ sym fit ∙ e
 
-      columns-is : (k + n) * z' ≡ (kb R + m R) * z'
-      columns-is = ap₂ (λ (x y : ℕ). (x + y) * z') kb-is m-is
+      long-is : c * z' ≡ columns R * z'
+      long-is = ap (λ (x : ℕ). x * z') c-is
 
       pub block-8 : u ≡ true → 8 ≡ blockNumber R z' places room
       unfolding blockNumber answered
-      block-8 e = sym (judged-first R others (sym found ∙ done) ∙ rw (fit-is e))
+      block-8 e = sym (judged-passed R others (sym found ∙ done) ∙ rw (fit-is e))
 
-      pub block-11 : u ≡ false → room < (k + n) * z' → 11 ≡ blockNumber R z' places room
+      pub block-11 : u ≡ false → room < c * z' → 11 ≡ blockNumber R z' places room
       unfolding blockNumber answered
       block-11 e l =
-          sym (judged-first R others (sym found ∙ done) ∙ rw (fit-is e, lt-ltb room ((kb R + m R) * z') (omega (arith, columns-is))))
+          sym (judged-passed R others (sym found ∙ done) ∙ rw (fit-is e, lt-ltb room (columns R * z') (omega (arith, long-is))))
 
-      module _ (e : u ≡ false) (l : (k + n) * z' ≤ room) (o : Bool) (over : o ≡ someOver 2 places) where
+      module _ (e : u ≡ false) (l : c * z' ≤ room) (o : Bool) (over : o ≡ someOver 2 places) where
         pub block-12 : o ≡ true → 12 ≡ blockNumber R z' places room
         unfolding blockNumber answered
         block-12 q =
-            sym (judged-first R others (sym found ∙ done)
-            ∙ rw (fit-is e, le-ltb room ((kb R + m R) * z') (omega (arith, columns-is)), sym over ∙ q))
+            sym (judged-passed R others (sym found ∙ done)
+            ∙ rw (fit-is e, le-ltb room (columns R * z') (omega (arith, long-is)), sym over ∙ q))
 
         pub block-0 : o ≡ false → 0 ≡ blockNumber R z' places room
         unfolding blockNumber answered
         block-0 q =
-            sym (judged-first R others (sym found ∙ done)
-            ∙ rw (fit-is e, le-ltb room ((kb R + m R) * z') (omega (arith, columns-is)), sym over ∙ q))
+            sym (judged-passed R others (sym found ∙ done)
+            ∙ rw (fit-is e, le-ltb room (columns R * z') (omega (arith, long-is)), sym over ∙ q))
 
   pub record Taken : Type 0 where
     pub judged : judged R ≡ 0
     pub size : hasSize R z' ≡ true
     pub long : length places ≡ kb R * z'
-    pub enough : (kb R + m R) * z' ≤ room
+    pub enough : columns R * z' ≤ room
 
   pub block-taken : blockNumber R z' places room ≡ 0 → Taken
   unfolding blockNumber
   block-taken e =
       let first = done-first R others e in
       let eight = passed 8 _ (unfit R z' (kb R) places) (lit< tt) (first .1) in
-      let eleven = passed 11 _ (ltb room ((kb R + m R) * z')) (lit< tt) (eight .1) in
+      let eleven = passed 11 _ (ltb room (columns R * z')) (lit< tt) (eight .1) in
       let fit = fits R z' (kb R) places (eight .0) in
-      record { judged = first .0; size = fit .0; long = fit .1; enough = ltb-false room ((kb R + m R) * z') (eleven .0) }
+      record { judged = first .0; size = fit .0; long = fit .1; enough = ltb-false room (columns R * z') (eleven .0) }
 
   -- and 15 behind them
   abbrev fifteen : List (ℕ × Bool)
-  fifteen = (15, not (hasParity (tableFor R z') (kb R) (m R) z' places)) ∷ []
+  fifteen = (15, not (hasParity (tableFor R z') (rows R) (columns R) z' places)) ∷ []
 
   number-refused : (blockNumber R z' places room ≡ 0 → ⊥) → codeNumber R z' places room ≡ blockNumber R z' places room
   unfolding codeNumber blockNumber
@@ -142,10 +134,10 @@ module _ (R : List ℕ) (z' : ℕ) (places : List ℕ) (room : ℕ) where
     unfolding codeNumber blockNumber Refusals
     number-last = last-part (blockConditions R z' places room) fifteen tt e
 
-    number-done : hasParity (tableFor R z') (kb R) (m R) z' places ≡ true → codeNumber R z' places room ≡ 0
+    number-done : hasParity (tableFor R z') (rows R) (columns R) z' places ≡ true → codeNumber R z' places room ≡ 0
     number-done h = number-last ∙ passes 15 [] (ap not h) ∙ none-left
 
-    number-none : hasParity (tableFor R z') (kb R) (m R) z' places ≡ false → codeNumber R z' places room ≡ 15
+    number-none : hasParity (tableFor R z') (rows R) (columns R) z' places ≡ false → codeNumber R z' places room ≡ 15
     number-none h = number-last ∙ applies 15 [] (ap not h)
 
 module _ (R : List ℕ) (z' : ℕ) (places out : List ℕ) where
@@ -156,7 +148,7 @@ module _ (R : List ℕ) (z' : ℕ) (places out : List ℕ) where
   refused-with n e h =
       record {
         number = sym e;
-        count = rw e (sym (when-refused n ((kb R + m R) * z') 0 h));
+        count = rw e (sym (when-refused n (columns R * z') 0 h));
         output = rw e (sym (when-refused n _ out h));
       }
 
@@ -165,17 +157,17 @@ module _ (R : List ℕ) (z' : ℕ) (places out : List ℕ) where
       refused-with n (number-refused R z' places (length out) (λ q. h (e ∙ q)) ∙ sym e) h
 
   module _ (e : block ≡ 0) where
-    pub coded-none : hasParity (tableFor R z') (kb R) (m R) z' places ≡ false → BlockCoded R z' places out (record { number = 15; count = 0 }) out
+    pub coded-none : hasParity (tableFor R z') (rows R) (columns R) z' places ≡ false → BlockCoded R z' places out (record { number = 15; count = 0 }) out
     coded-none h = refused-with 15 (number-none R z' places (length out) e h) (λ q. omega arith)
 
-    pub coded-done : hasParity (tableFor R z') (kb R) (m R) z' places ≡ true → (n : ℕ) → n ≡ (kb R + m R) * z' → (out' : List ℕ)
-        → out' ≡ coded (tableFor R z') (kb R) (m R) z' places ++ drop ((kb R + m R) * z') out
+    pub coded-done : hasParity (tableFor R z') (rows R) (columns R) z' places ≡ true → (n : ℕ) → n ≡ columns R * z' → (out' : List ℕ)
+        → out' ≡ coded (tableFor R z') (rows R) (columns R) z' places ++ drop (columns R * z') out
         → BlockCoded R z' places out (record { number = 0; count = n }) out'
     coded-done h n p out' q =
         let c : codeNumber R z' places (length out) ≡ 0 = number-done R z' places (length out) e h in
         record {
           number = sym c;
-          count = rw c (p ∙ sym (when-done 0 ((kb R + m R) * z') 0 refl));
+          count = rw c (p ∙ sym (when-done 0 (columns R * z') 0 refl));
           output = rw c (q ∙ sym (when-done 0 _ out refl));
         }
 
@@ -183,41 +175,41 @@ module _ (R : List ℕ) (z' : ℕ) (places out : List ℕ) where
 
 module _ (R : List ℕ) (z' : ℕ) (word : List ℕ) where
   abbrev tests : List (ℕ × Bool)
-  tests = (8, unfit R z' (kb R + m R) word) ∷ (12, someOver 1 word) ∷ []
+  tests = (8, unfit R z' (columns R) word) ∷ (12, someOver 1 word) ∷ []
 
   module _ (j : ℕ) (found : j ≡ judged R) where
     pub word-judged : (j ≡ 0 → ⊥) → j ≡ checkNumber R z' word
     unfolding checkNumber
-    word-judged h = found ∙ sym (refused-first R tests (λ q. h (found ∙ q)))
+    word-judged h = found ∙ sym (judged-first R tests (λ q. h (found ∙ q)))
 
-    module _ (done : j ≡ 0) (k n : ℕ) (kb-is : k ≡ kb R) (m-is : n ≡ m R) (u : Bool) (fit : u ≡ unfit R z' (k + n) word) where
-      fit-word : {b : Bool} → u ≡ b → unfit R z' (kb R + m R) word ≡ b
-      fit-word e = ap₂ (λ (x y : ℕ). unfit R z' (x + y) word) (sym kb-is) (sym m-is) ∙ sym fit ∙ e
+    module _ (done : j ≡ 0) (c : ℕ) (c-is : c ≡ columns R) (u : Bool) (fit : u ≡ unfit R z' c word) where
+      fit-word : {b : Bool} → u ≡ b → unfit R z' (columns R) word ≡ b
+      fit-word e = ap (λ (x : ℕ). unfit R z' x word) (sym c-is) ∙ sym fit ∙ e
 
       pub word-8 : u ≡ true → 8 ≡ checkNumber R z' word
       unfolding checkNumber answered
-      word-8 e = sym (judged-first R tests (sym found ∙ done) ∙ rw (fit-word e))
+      word-8 e = sym (judged-passed R tests (sym found ∙ done) ∙ rw (fit-word e))
 
       module _ (e : u ≡ false) (o : Bool) (over : o ≡ someOver 1 word) where
         pub word-12 : o ≡ true → 12 ≡ checkNumber R z' word
         unfolding checkNumber answered
-        word-12 q = sym (judged-first R tests (sym found ∙ done) ∙ rw (fit-word e, sym over ∙ q))
+        word-12 q = sym (judged-passed R tests (sym found ∙ done) ∙ rw (fit-word e, sym over ∙ q))
 
         pub word-0 : o ≡ false → 0 ≡ checkNumber R z' word
         unfolding checkNumber answered
-        word-0 q = sym (judged-first R tests (sym found ∙ done) ∙ rw (fit-word e, sym over ∙ q))
+        word-0 q = sym (judged-passed R tests (sym found ∙ done) ∙ rw (fit-word e, sym over ∙ q))
 
-  pub word-taken : checkNumber R z' word ≡ 0 → (judged R ≡ 0) × (hasSize R z' ≡ true) × (length word ≡ (kb R + m R) * z')
+  pub word-taken : checkNumber R z' word ≡ 0 → (judged R ≡ 0) × (hasSize R z' ≡ true) × (length word ≡ columns R * z')
   unfolding checkNumber
   word-taken e =
       let first = done-first R tests e in
-      let eight = passed 8 _ (unfit R z' (kb R + m R) word) (lit< tt) (first .1) in
-      let fit = fits R z' (kb R + m R) word (eight .0) in
+      let eight = passed 8 _ (unfit R z' (columns R) word) (lit< tt) (first .1) in
+      let fit = fits R z' (columns R) word (eight .0) in
       (first .0, fit .0, fit .1)
 
   pub checked-refused : (n : ℕ) → n ≡ checkNumber R z' word → (n ≡ 0 → ⊥) → WordChecked R z' word (record { number = n; checks = false })
   checked-refused n e h = record { number = e; checks = sym (when-refused (checkNumber R z' word) _ false (λ q. h (e ∙ q))) }
 
-  pub checked-done : (n : ℕ) → n ≡ checkNumber R z' word → n ≡ 0 → (b : Bool) → b ≡ checks (tableFor R z') (m R) (kb R + m R) z' word
+  pub checked-done : (n : ℕ) → n ≡ checkNumber R z' word → n ≡ 0 → (b : Bool) → b ≡ checks (tableFor R z') (rows R) (columns R) z' word
       → WordChecked R z' word (record { number = n; checks = b })
   checked-done n e h b q = record { number = e; checks = q ∙ sym (when-done (checkNumber R z' word) _ false (sym e ∙ h)) }

@@ -15,124 +15,134 @@ use Rattle.bits.proofs.Ranges.{any-of, first-some}
 use Rattle.parity.specs.Matrix.{checks}
 use Rattle.parity.specs.Coded.{withParity, checksWith, hasParity, coded}
 use Rattle.parity.specs.steps.Grouped.{Solution}
-use Rattle.profile.proofs.Stairs.{Staircase}
-use Rattle.parity.proofs.Solve.{checked-solved}
+use Rattle.parity.proofs.Solve.{Solvable, checked-solved}
 use Rattle.parity.proofs.Unique.{solution-unique}
 
-module _ (kb m z : ℕ) (sys : List ℕ) (size : length sys ≡ kb * z) where
-  -- ---- a block with any choice of parity bits
+module _ (T : List ℕ) (rows columns z : ℕ) (sys : List ℕ) where
+  -- the choice that is made
+  abbrev choice : ℕ
+  choice = firstBelow (2 ^ (rows * z)) (checksWith T rows columns z sys)
 
-  with-length : (n : ℕ) → length (withParity m z sys n) ≡ (kb + m) * z
-  unfolding withParity
-  with-length n = length-append sys (digits (m * z) n) ∙ omega (arith, length-digits (m * z) n, add-mul kb m z)
+  pub coded-checks : hasParity T rows columns z sys ≡ true → checks T rows columns z (coded T rows columns z sys) ≡ true
+  unfolding hasParity coded checksWith
+  coded-checks e = first-some (2 ^ (rows * z)) (checksWith T rows columns z sys) e .holds
 
-  with-front : (n p : ℕ) → p < kb * z → getD (withParity m z sys n) p 0 ≡ getD sys p 0
-  unfolding withParity
-  with-front n p h = List·getD-append sys (digits (m * z) n) 0 p (omega arith)
+  module _ (kb : ℕ) (size : length sys ≡ kb * z) where
+    -- ---- a block with any choice of parity bits
 
-  with-bits : (n p : ℕ) → kb * z ≤ p → getD (withParity m z sys n) p 0 < 2
-  unfolding withParity
-  with-bits n p h =
-      let at : length sys + (p - kb * z) ≡ p = omega arith in
-      subst (λ (x : ℕ). getD (sys ++ digits (m * z) n) x 0 < 2) at
-      (rw (getD-append-add sys (digits (m * z) n) (p - kb * z) 0) (digits-bits (m * z) n (p - kb * z)))
-
-  with-take : (n : ℕ) → take (kb * z) (withParity m z sys n) ≡ sys
-  unfolding withParity
-  with-take n = take-at sys (digits (m * z) n) (kb * z) size
-
-  -- a word that has the places in front, and then bits, is the block with one of the choices
-  module _ (w : List ℕ) (long : length w ≡ (kb + m) * z) (front : take (kb * z) w ≡ sys) (bits : (p : ℕ) → kb * z ≤ p → getD w p 0 < 2) where
-    rest-bits : AreBits (drop (kb * z) w)
-    rest-bits k = rw (getD-drop (kb * z) w k 0) (bits (kb * z + k) (omega arith))
-
-    rest-length : length (drop (kb * z) w) ≡ m * z
-    rest-length = length-drop (kb * z) w ∙ omega (arith, add-mul kb m z)
-
-    choice-lt : valueOf (drop (kb * z) w) < 2 ^ (m * z)
-    choice-lt = subst (λ (n : ℕ). valueOf (drop (kb * z) w) < 2 ^ n) rest-length (value-lt (drop (kb * z) w) rest-bits)
-
-    choice-is : withParity m z sys (valueOf (drop (kb * z) w)) ≡ w
+    with-length : (n : ℕ) → length (withParity rows z sys n) ≡ (kb + rows) * z
     unfolding withParity
-    choice-is =
-        ap₂ (λ (a b : List ℕ). a ++ b) (sym front)
-        (ap (λ (n : ℕ). digits n (valueOf (drop (kb * z) w))) (sym rest-length) ∙ digits-value (drop (kb * z) w) rest-bits)
-        ∙ take-append-drop (kb * z) w
+    with-length n = length-append sys (digits (rows * z) n) ∙ omega (arith, length-digits (rows * z) n, add-mul kb rows z)
 
-  -- a word that was solved behind the places
-  pub solution-places : {T u w : List ℕ} (rest : List ℕ) → u ≡ sys ++ rest → Solution T kb m z u w → Solution T kb m z sys w
-  solution-places {u = u} rest e h =
-      record {
-        size = h .size;
-        front = λ p l. h .front p l ∙ ap (λ (s : List ℕ). getD s p 0) e ∙ List·getD-append sys rest 0 p (omega arith);
-        bits = h .bits;
-        solved = h .solved;
-      }
+    with-front : (n p : ℕ) → p < kb * z → getD (withParity rows z sys n) p 0 ≡ getD sys p 0
+    unfolding withParity
+    with-front n p h = List·getD-append sys (digits (rows * z) n) 0 p (omega arith)
 
-  -- ---- the laws of the coded block
+    with-bits : (n p : ℕ) → kb * z ≤ p → getD (withParity rows z sys n) p 0 < 2
+    unfolding withParity
+    with-bits n p h =
+        let at : length sys + (p - kb * z) ≡ p = omega arith in
+        subst (λ (x : ℕ). getD (sys ++ digits (rows * z) n) x 0 < 2) at
+        (rw (getD-append-add sys (digits (rows * z) n) (p - kb * z) 0) (digits-bits (rows * z) n (p - kb * z)))
 
-  module _ (T : List ℕ) where
-    pub coded-length : length (coded T kb m z sys) ≡ (kb + m) * z
+    with-take : (n : ℕ) → take (kb * z) (withParity rows z sys n) ≡ sys
+    unfolding withParity
+    with-take n = take-at sys (digits (rows * z) n) (kb * z) size
+
+    -- ---- the laws of the coded block
+
+    pub coded-take : take (kb * z) (coded T rows columns z sys) ≡ sys
     unfolding coded
-    coded-length = with-length (firstBelow (2 ^ (m * z)) (checksWith T kb m z sys))
+    coded-take = with-take choice
 
-    pub coded-take : take (kb * z) (coded T kb m z sys) ≡ sys
+    pub coded-bits : (p : ℕ) → kb * z ≤ p → getD (coded T rows columns z sys) p 0 < 2
     unfolding coded
-    coded-take = with-take (firstBelow (2 ^ (m * z)) (checksWith T kb m z sys))
+    coded-bits = with-bits choice
 
-    pub coded-bits : (p : ℕ) → kb * z ≤ p → getD (coded T kb m z sys) p 0 < 2
+    pub coded-length : columns ≡ kb + rows → length (coded T rows columns z sys) ≡ columns * z
     unfolding coded
-    coded-bits = with-bits (firstBelow (2 ^ (m * z)) (checksWith T kb m z sys))
+    coded-length wide = with-length choice ∙ ap (λ (n : ℕ). n * z) (sym wide)
 
-    pub coded-checks : hasParity T kb m z sys ≡ true → checks T m (kb + m) z (coded T kb m z sys) ≡ true
-    unfolding hasParity coded checksWith
-    coded-checks e = first-some (2 ^ (m * z)) (checksWith T kb m z sys) e .holds
+    -- a word that has the places in front, and then bits, is the block with one of the choices
+    module _ (w : List ℕ) (long : length w ≡ (kb + rows) * z) (front : take (kb * z) w ≡ sys) (bits : (p : ℕ) → kb * z ≤ p → getD w p 0 < 2) where
+      rest-bits : AreBits (drop (kb * z) w)
+      rest-bits k = rw (getD-drop (kb * z) w k 0) (bits (kb * z + k) (omega arith))
 
-    coded-solution : Staircase T kb m → hasParity T kb m z sys ≡ true → Solution T kb m z sys (coded T kb m z sys)
-    unfolding coded
-    coded-solution S e =
-        record {
-          size = coded-length;
-          front = with-front (firstBelow (2 ^ (m * z)) (checksWith T kb m z sys));
-          bits = coded-bits;
-          solved = checked-solved T kb m z (coded T kb m z sys) S (coded-checks e);
-        }
+      rest-length : length (drop (kb * z) w) ≡ rows * z
+      rest-length = length-drop (kb * z) w ∙ omega (arith, add-mul kb rows z)
 
-    -- a word that solves the staircase from the places: it is the coded block where it checks, and where it does not there is none
-    module _ (S : Staircase T kb m) (w : List ℕ) (h : Solution T kb m z sys w) where
-      front-taken : take (kb * z) w ≡ sys
-      front-taken =
-          let l : length (take (kb * z) w) ≡ kb * z = length-take-le (kb * z) w (omega (arith, h .size, add-mul kb m z)) in
-          ext-getD 0 (take (kb * z) w) sys (l ∙ sym size) (λ p o. getD-take (kb * z) w p 0 (omega arith) ∙ h .front p (omega arith))
+      choice-lt : valueOf (drop (kb * z) w) < 2 ^ (rows * z)
+      choice-lt = subst (λ (n : ℕ). valueOf (drop (kb * z) w) < 2 ^ n) rest-length (value-lt (drop (kb * z) w) rest-bits)
 
-      pub solved-has : checks T m (kb + m) z w ≡ true → hasParity T kb m z sys ≡ true
-      unfolding hasParity checksWith
-      solved-has e =
-          any-of (2 ^ (m * z)) (checksWith T kb m z sys) (valueOf (drop (kb * z) w)) (choice-lt w (h .size) front-taken (h .bits))
-          (ap (checks T m (kb + m) z) (choice-is w (h .size) front-taken (h .bits)) ∙ e)
+      choice-is : withParity rows z sys (valueOf (drop (kb * z) w)) ≡ w
+      unfolding withParity
+      choice-is =
+          ap₂ (λ (a b : List ℕ). a ++ b) (sym front)
+          (ap (λ (n : ℕ). digits n (valueOf (drop (kb * z) w))) (sym rest-length) ∙ digits-value (drop (kb * z) w) rest-bits)
+          ∙ take-append-drop (kb * z) w
 
-      pub solved-coded : hasParity T kb m z sys ≡ true → w ≡ coded T kb m z sys
-      solved-coded e = solution-unique T kb m z sys w (coded T kb m z sys) h (coded-solution S e)
+    module _ {m : ℕ} (S : Solvable T kb m rows columns) where
+      coded-solution : hasParity T rows columns z sys ≡ true → Solution T kb m columns z sys (coded T rows columns z sys)
+      unfolding coded
+      coded-solution e =
+          record {
+            size = coded-length (S .wide);
+            front = with-front choice;
+            bits = coded-bits;
+            solved = checked-solved T kb m rows columns z (coded T rows columns z sys) S (coded-checks e);
+          }
 
-      -- so its check answers whether there are parity bits
-      pub solved-checks : checks T m (kb + m) z w ≡ hasParity T kb m z sys
-      solved-checks = by-values (checks T m (kb + m) z w) (hasParity T kb m z sys) refl refl
-        where
-          by-values : (a b : Bool) → checks T m (kb + m) z w ≡ a → hasParity T kb m z sys ≡ b → a ≡ b
-          by-values true b p q = sym (solved-has p) ∙ q
-          by-values false true p q = sym p ∙ ap (checks T m (kb + m) z) (solved-coded q) ∙ coded-checks q
-          by-values false false p q = refl
+      -- a word that solves the staircase from the places: it is the coded block where it checks, and where it does not there is none
+      module _ (w : List ℕ) (h : Solution T kb m columns z sys w) where
+        long-word : length w ≡ (kb + rows) * z
+        long-word = h .size ∙ ap (λ (n : ℕ). n * z) (S .wide)
 
-    -- uniqueness: a word that has the places in front, then bits, and checks is the coded block
-    pub coded-unique : Staircase T kb m → (w : List ℕ) → length w ≡ (kb + m) * z → take (kb * z) w ≡ sys
-        → ((p : ℕ) → kb * z ≤ p → getD w p 0 < 2) → checks T m (kb + m) z w ≡ true
-        → (hasParity T kb m z sys ≡ true) × (w ≡ coded T kb m z sys)
-    coded-unique S w long front bits e =
-        let h : Solution T kb m z sys w = record {
-          size = long;
-          front = λ p l. sym (getD-take (kb * z) w p 0 l) ∙ ap (λ (s : List ℕ). getD s p 0) front;
-          bits = bits;
-          solved = checked-solved T kb m z w S e;
-        } in
-        let has = solved-has S w h e in
-        (has, solved-coded S w h has)
+        front-taken : take (kb * z) w ≡ sys
+        front-taken =
+            let l : length (take (kb * z) w) ≡ kb * z = length-take-le (kb * z) w (omega (arith, long-word, add-mul kb rows z)) in
+            ext-getD 0 (take (kb * z) w) sys (l ∙ sym size) (λ p o. getD-take (kb * z) w p 0 (omega arith) ∙ h .front p (omega arith))
+
+        pub solved-has : checks T rows columns z w ≡ true → hasParity T rows columns z sys ≡ true
+        unfolding hasParity checksWith
+        solved-has e =
+            any-of (2 ^ (rows * z)) (checksWith T rows columns z sys) (valueOf (drop (kb * z) w)) (choice-lt w long-word front-taken (h .bits))
+            (ap (checks T rows columns z) (choice-is w long-word front-taken (h .bits)) ∙ e)
+
+        pub solved-coded : hasParity T rows columns z sys ≡ true → w ≡ coded T rows columns z sys
+        solved-coded e =
+            let wide : columns ≡ kb + m = omega (arith, S .wide, S .tall) in
+            solution-unique T kb m columns z wide sys w (coded T rows columns z sys) h (coded-solution e)
+
+        -- so its check answers whether there are parity bits
+        pub solved-checks : checks T rows columns z w ≡ hasParity T rows columns z sys
+        solved-checks = by-values (checks T rows columns z w) (hasParity T rows columns z sys) refl refl
+          where
+            by-values : (a b : Bool) → checks T rows columns z w ≡ a → hasParity T rows columns z sys ≡ b → a ≡ b
+            by-values true b p q = sym (solved-has p) ∙ q
+            by-values false true p q = sym p ∙ ap (checks T rows columns z) (solved-coded q) ∙ coded-checks q
+            by-values false false p q = refl
+
+      -- uniqueness: a word that has the places in front, then bits, and checks is the coded block
+      pub coded-unique : (w : List ℕ) → length w ≡ columns * z → take (kb * z) w ≡ sys
+          → ((p : ℕ) → kb * z ≤ p → getD w p 0 < 2) → checks T rows columns z w ≡ true
+          → (hasParity T rows columns z sys ≡ true) × (w ≡ coded T rows columns z sys)
+      coded-unique w long front bits e =
+          let h : Solution T kb m columns z sys w = record {
+            size = long;
+            front = λ p l. sym (getD-take (kb * z) w p 0 l) ∙ ap (λ (s : List ℕ). getD s p 0) front;
+            bits = bits;
+            solved = checked-solved T kb m rows columns z w S e;
+          } in
+          let has = solved-has w h e in
+          (has, solved-coded w h has)
+
+-- a word that was solved behind the places
+pub solution-places : {T : List ℕ} {kb m columns z : ℕ} {sys u w : List ℕ} → length sys ≡ kb * z → (rest : List ℕ) → u ≡ sys ++ rest
+    → Solution T kb m columns z u w → Solution T kb m columns z sys w
+solution-places {sys = sys} size rest e h =
+    record {
+      size = h .size;
+      front = λ p l. h .front p l ∙ ap (λ (s : List ℕ). getD s p 0) e ∙ List·getD-append sys rest 0 p (omega arith);
+      bits = h .bits;
+      solved = h .solved;
+    }

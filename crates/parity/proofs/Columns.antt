@@ -81,17 +81,17 @@ entered-entry-bit z w base s u a at g d h low =
 
 -- ---- the sums
 
--- m rows of z places, of the room for the largest table
-room-length : {T : List ℕ} {m columns z : ℕ} → Shape T m columns z → length (take (m * z) (replicate {A = ℕ} 972 0)) ≡ m * z
-room-length {m = m} {z = z} shape = length-take-le (m * z) (replicate 972 0) (mul-le-mul (shape .m-most) (shape .z-most))
+-- all rows of z places, of the room for the largest table
+room-length : {T : List ℕ} {rows columns z : ℕ} → Shape T rows columns z → length (take (rows * z) (replicate {A = ℕ} 972 0)) ≡ rows * z
+room-length {rows = rows} {z = z} shape = length-take-le (rows * z) (replicate 972 0) (mul-le-mul (shape .rows-most) (shape .z-most))
 
-module _ (T : List ℕ) (m columns z : ℕ) (w : List ℕ) where
+module _ (T : List ℕ) (rows columns z : ℕ) (w : List ℕ) where
   part-more : (j i u : ℕ) → rowPart T columns z w (suc j) i u ≡ rowPart T columns z w j i u + entryBit z w (getD T (i * columns + j) 0) (j * z) u
   unfolding rowPart sumBelow term entry
   part-more j i u = refl
 
   -- over no column
-  sums-none : (s : List ℕ) → length s ≡ m * z → ((k : ℕ) → getD s k 0 ≡ 0) → Sums T m columns z w 0 0 s
+  sums-none : (s : List ℕ) → length s ≡ rows * z → ((k : ℕ) → getD s k 0 ≡ 0) → Sums T rows columns z w 0 0 s
   unfolding rowPart sumBelow
   sums-none s e h =
       record {
@@ -101,12 +101,12 @@ module _ (T : List ℕ) (m columns z : ℕ) (w : List ℕ) where
         left = λ i u l o low. h (i * z + u);
       }
 
-  pub sums-room : Shape T m columns z → Sums T m columns z w 0 0 (take (m * z) (replicate 972 0))
-  sums-room shape = sums-none (take (m * z) (replicate 972 0)) (room-length shape) (zeros-take (m * z) 972)
+  pub sums-room : Shape T rows columns z → Sums T rows columns z w 0 0 (take (rows * z) (replicate 972 0))
+  sums-room shape = sums-none (take (rows * z) (replicate 972 0)) (room-length shape) (zeros-take (rows * z) 972)
 
   -- one row more of column j
-  row-made : (j i : ℕ) (g a b : List ℕ) → Shape T m columns z → Doubled w (j * z) z g → i < m → Sums T m columns z w j i a
-      → Run z (entered a (i * z) (getD T (i * columns + j) 0) g) a (i * z) b → Sums T m columns z w j (i + 1) b
+  row-made : (j i : ℕ) (g a b : List ℕ) → Shape T rows columns z → Doubled w (j * z) z g → i < rows → Sums T rows columns z w j i a
+      → Run z (entered a (i * z) (getD T (i * columns + j) 0) g) a (i * z) b → Sums T rows columns z w j (i + 1) b
   row-made j i g a b shape d h sums r =
       record {
         size = r .len ∙ sums .size;
@@ -132,13 +132,13 @@ module _ (T : List ℕ) (m columns z : ℕ) (w : List ℕ) where
             part-more j i u,
           )
 
-  pub sums-row : {j i n at e : ℕ} {g a b : List ℕ} → Shape T m columns z → Doubled w (j * z) z g → i < m → n ≡ i + 1 → at ≡ i * z → e ≡ i * columns + j
-      → Sums T m columns z w j i a → Run z (entered a at (getD T e 0) g) a at b → Sums T m columns z w j n b
+  pub sums-row : {j i n at e : ℕ} {g a b : List ℕ} → Shape T rows columns z → Doubled w (j * z) z g → i < rows → n ≡ i + 1 → at ≡ i * z → e ≡ i * columns + j
+      → Sums T rows columns z w j i a → Run z (entered a at (getD T e 0) g) a at b → Sums T rows columns z w j n b
   sums-row {j} {i} {n} {at} {e} {g} {a} {b} shape d h next p q sums r =
       rw next (row-made j i g a b shape d h sums (subst₂ (λ (x y : ℕ). Run z (entered a x (getD T y 0) g) a x b) p q r))
 
   -- a whole column more
-  pub sums-column : {j i : ℕ} {s : List ℕ} → m ≤ i → Sums T m columns z w j i s → Sums T m columns z w (j + 1) 0 s
+  pub sums-column : {j i : ℕ} {s : List ℕ} → rows ≤ i → Sums T rows columns z w j i s → Sums T rows columns z w (j + 1) 0 s
   sums-column {j} {i} {s} h sums =
       record {
         size = sums .size;
@@ -147,12 +147,12 @@ module _ (T : List ℕ) (m columns z : ℕ) (w : List ℕ) where
         left = λ i' u l o low. rw (add-one j) (sums .done i' u (omega arith) low);
       }
 
-  pub sums-all : {j n : ℕ} {s : List ℕ} → j ≤ n → n ≤ j → Sums T m columns z w j 0 s → Sums T m columns z w n 0 s
-  sums-all {j} {n} {s} h l sums = subst (λ (x : ℕ). Sums T m columns z w x 0 s) (le-antisymm h l) sums
+  pub sums-all : {j n : ℕ} {s : List ℕ} → j ≤ n → n ≤ j → Sums T rows columns z w j 0 s → Sums T rows columns z w n 0 s
+  sums-all {j} {n} {s} h l sums = subst (λ (x : ℕ). Sums T rows columns z w x 0 s) (le-antisymm h l) sums
 
   -- a word that is the same in the columns that were added
   pub sums-word : {n : ℕ} {s : List ℕ} (v : List ℕ) → 0 < z → ((p : ℕ) → p < n * z → lowBit w p ≡ lowBit v p)
-      → Sums T m columns z w n 0 s → Sums T m columns z v n 0 s
+      → Sums T rows columns z w n 0 s → Sums T rows columns z v n 0 s
   sums-word {n} {s} v some same sums =
       record {
         size = sums .size;
@@ -162,25 +162,25 @@ module _ (T : List ℕ) (m columns z : ℕ) (w : List ℕ) where
       }
 
   -- over all columns: no sum is over 0 exactly where the word checks
-  module _ (s : List ℕ) (some : 0 < z) (sums : Sums T m columns z w columns 0 s) where
-    sum-at : (p : ℕ) → p < m * z → getD s p 0 ≡ rowPart T columns z w columns (p / z) (p % z) % 2
+  module _ (s : List ℕ) (some : 0 < z) (sums : Sums T rows columns z w columns 0 s) where
+    sum-at : (p : ℕ) → p < rows * z → getD s p 0 ≡ rowPart T columns z w columns (p / z) (p % z) % 2
     sum-at p l =
         ap (λ (x : ℕ). getD s x 0) (sym (div-add-mod' p z))
         ∙ sums .left (p / z) (p % z) (omega arith) (div-lt-iff-lt-mul some .1 l) (mod-lt p some)
 
-    zeros : checks T m columns z w ≡ true → (p : ℕ) → getD s p 0 ≤ 0
+    zeros : checks T rows columns z w ≡ true → (p : ℕ) → getD s p 0 ≤ 0
     zeros e p =
-        below-or p (m * z)
-        (λ l. omega (arith, sum-at p l, checks-row T columns z w m e (p / z) (p % z) (div-lt-iff-lt-mul some .1 l) (mod-lt p some)))
+        below-or p (rows * z)
+        (λ l. omega (arith, sum-at p l, checks-row T columns z w rows e (p / z) (p % z) (div-lt-iff-lt-mul some .1 l) (mod-lt p some)))
         (λ l. omega (arith, List·getD-eq-default s 0 {n = p} (omega (arith, sums .size))))
 
-    even : someOver 0 s ≡ false → checks T m columns z w ≡ true
-    even e = row-checks T columns z w m (λ i u h low. omega (arith, sums .left i u (omega arith) h low, none-over 0 s e (i * z + u)))
+    even : someOver 0 s ≡ false → checks T rows columns z w ≡ true
+    even e = row-checks T columns z w rows (λ i u h low. omega (arith, sums .left i u (omega arith) h low, none-over 0 s e (i * z + u)))
 
-    pub sums-checks : not (someOver 0 s) ≡ checks T m columns z w
-    sums-checks = by-values (someOver 0 s) (checks T m columns z w) refl refl
+    pub sums-checks : not (someOver 0 s) ≡ checks T rows columns z w
+    sums-checks = by-values (someOver 0 s) (checks T rows columns z w) refl refl
       where
-        by-values : (a b : Bool) → someOver 0 s ≡ a → checks T m columns z w ≡ b → not a ≡ b
+        by-values : (a b : Bool) → someOver 0 s ≡ a → checks T rows columns z w ≡ b → not a ≡ b
         by-values false b p q = sym (even p) ∙ q
         by-values true false p q = refl
         by-values true true p q = sym (ap not (sym (not-over 0 s (zeros q)) ∙ p))

@@ -86,12 +86,12 @@ module _ (s : List ℕ) (z : ℕ) (a : List ℕ) (at : ℕ) where
 
 -- ---- what the sums of the rows come to, together
 
-down-stack : (T : List ℕ) (m columns z : ℕ) (w : List ℕ) (n : ℕ) (s : List ℕ) → Sums T m columns z w n 0 s → (r : ℕ) → r ≤ m
+down-stack : (T : List ℕ) (rows columns z : ℕ) (w : List ℕ) (n : ℕ) (s : List ℕ) → Sums T rows columns z w n 0 s → (r : ℕ) → r ≤ rows
     → (u : ℕ) → u < z → down s z r u % 2 ≡ stack T columns z w n r u % 2
 unfolding down stack sumBelow
-down-stack T m columns z w n s sums zero l u low = refl
-down-stack T m columns z w n s sums (suc r) l u low =
-    omega (arith, down-stack T m columns z w n s sums r (omega arith) u low, sums .left r u (omega arith) l low)
+down-stack T rows columns z w n s sums zero l u low = refl
+down-stack T rows columns z w n s sums (suc r) l u low =
+    omega (arith, down-stack T rows columns z w n s sums r (omega arith) u low, sums .left r u (omega arith) l low)
 
 same-bit : (v w : List ℕ) (p : ℕ) → getD v p 0 ≡ getD w p 0 → lowBit v p ≡ lowBit w p
 unfolding lowBit
@@ -110,7 +110,7 @@ pub steps-in : (kb m z : ℕ) → 0 < m → (kb + 1) * z + (m - 1) * z ≡ (kb +
 steps-in kb m z h = sym (add-mul (kb + 1) (m - 1) z) ∙ ap (λ (x : ℕ). x * z) {x = kb + 1 + (m - 1)} {y = kb + m} (omega arith)
 
 -- all parity columns laid
-module _ (T : List ℕ) (kb m z : ℕ) (a b c s s' : List ℕ) (some : 0 < z) (rows : 0 < m) (sums : Sums T m (kb + m) z a kb 0 s) (sums' : Sums T m (kb + m) z b (kb + 1) 0 s')
+module _ (T : List ℕ) (kb m columns z : ℕ) (a b c s s' : List ℕ) (some : 0 < z) (sums : Sums T m columns z a kb 0 s) (sums' : Sums T m columns z b (kb + 1) 0 s')
     (one : Groups z 1 (allRows s z m) a (kb * z) b) (next : Groups z (m - 1) (rowsAbove s' z) b ((kb + 1) * z) c) where
   step : (kb + 1) * z ≡ kb * z + z
   step = ap (λ (x : ℕ). x * z) (add-one kb) ∙ suc-mul kb z
@@ -131,30 +131,31 @@ module _ (T : List ℕ) (kb m z : ℕ) (a b c s s' : List ℕ) (some : 0 < z) (r
       let e : kb + suc n ≡ kb + 1 + n = omega arith in
       ap (λ (x : ℕ). getD c (x + u) 0) (ap (λ (x : ℕ). x * z) e ∙ add-mul (kb + 1) n z) ∙ next .inside n u (omega arith) low
 
-  pub laid-solved : Solved T kb m z c
+  pub laid-solved : Solved T kb m columns z c
   laid-solved =
       record {
         first = λ u low.
-            bit-mod c (kb * z + u) _ (first-at u low ∙ down-stack T m (kb + m) z a kb s sums m (omega arith) u low)
-            ∙ ap (λ (x : ℕ). x % 2) (stack-same T (kb + m) z a c kb some (λ p l. same-bit a c p (sym (front p l))) m u);
+            bit-mod c (kb * z + u) _ (first-at u low ∙ down-stack T m columns z a kb s sums m (omega arith) u low)
+            ∙ ap (λ (x : ℕ). x % 2) (stack-same T columns z a c kb some (λ p l. same-bit a c p (sym (front p l))) m u);
         next = λ n u p l low. later n u p l low;
       }
     where
-      later : (n u : ℕ) → 0 < n → n < m → u < z → lowBit c ((kb + n) * z + u) ≡ stack T (kb + m) z c (suc kb) n u % 2
+      later : (n u : ℕ) → 0 < n → n < m → u < z → lowBit c ((kb + n) * z + u) ≡ stack T columns z c (suc kb) n u % 2
       later zero u p l low = absurd (omega arith)
       later (suc n) u p l low =
-          bit-mod c ((kb + suc n) * z + u) _ (next-at n u l low ∙ down-stack T m (kb + m) z b (kb + 1) s' sums' (suc n) (omega arith) u low)
+          bit-mod c ((kb + suc n) * z + u) _ (next-at n u l low ∙ down-stack T m columns z b (kb + 1) s' sums' (suc n) (omega arith) u low)
           ∙ ap (λ (x : ℕ). x % 2)
-          (stack-same T (kb + m) z b c (kb + 1) some (λ p l. same-bit b c p (sym (next .below p l))) (suc n) u
-          ∙ ap (λ (x : ℕ). stack T (kb + m) z c x (suc n) u) (add-one kb))
+          (stack-same T columns z b c (kb + 1) some (λ p l. same-bit b c p (sym (next .below p l))) (suc n) u
+          ∙ ap (λ (x : ℕ). stack T columns z c x (suc n) u) (add-one kb))
 
   parity : (n u : ℕ) → n < m → u < z → getD c ((kb + n) * z + u) 0 < 2
   parity zero u l low = omega (arith, ap (λ (x : ℕ). getD c (x * z + u) 0) (add-zero kb), first-at u low)
   parity (suc n) u l low = omega (arith, next-at n u l low)
 
-  pub laid-solution : length a ≡ (kb + m) * z → Solution T kb m z a c
-  laid-solution e =
-      let size : length c ≡ (kb + m) * z = next .len ∙ one .len ∙ e in
+  pub laid-solution : columns ≡ kb + m → length a ≡ columns * z → Solution T kb m columns z a c
+  laid-solution wide e =
+      let size : length c ≡ columns * z = next .len ∙ one .len ∙ e in
+      let all : columns * z ≡ (kb + m) * z = ap (λ (n : ℕ). n * z) wide in
       record {
         size = size;
         front = front;

@@ -2,7 +2,7 @@
 use mathlib.Core.Path.{_≡_, ap, ap₂, sym, _∙_}
 use mathlib.Core.Bool.{Bool, true, false}
 use mathlib.Core.List.{List, _++_}
-use Prim.Native.Nat.{ℕ, _+_, _*_, _≤_, _<_}
+use Prim.Native.Nat.{ℕ, _*_, _≤_, _<_}
 use native.Mathlib.Nat.{mul-le-mul}
 use native.Mathlib.Omega.{arith}
 use lib.Dec.{eqb}
@@ -10,22 +10,24 @@ use lib.ListN.{length, drop}
 use borrow.Author.Tests.{eqb-true}
 use Rattle.bits.specs.Ranges.{firstBelow}
 use Rattle.bits.proofs.Ranges.{first-some}
-use Rattle.profile.specs.Record.{kb, m, t, z, table}
+use Rattle.profile.specs.Record.{kb, m, t, z, rows, columns, table}
 use Rattle.profile.specs.Promises.{judged}
 use Rattle.profile.proofs.Accepted.{accepted}
-use Rattle.profile.proofs.Stairs.{Staircase, staircase-is}
+use Rattle.profile.proofs.Shape.{rows-is, columns-is}
+use Rattle.profile.proofs.Stairs.{staircase-is}
 use Rattle.parity.specs.Matrix.{checks}
 use Rattle.parity.specs.Coded.{hasParity, coded}
 use Rattle.parity.specs.Promises.{hasSize, tableFor, BlockCoded}
 use Rattle.parity.specs.steps.Gate.{blockNumber}
-use Rattle.parity.specs.steps.Grouped.{Shape, Solution}
+use Rattle.parity.specs.steps.Grouped.{Shape, Codable, Solution, Attempted}
 use Rattle.parity.proofs.Answers.{block-taken, coded-none, coded-done}
+use Rattle.parity.proofs.Solve.{Solvable}
 use Rattle.parity.proofs.Coded.{solved-checks, solved-coded}
 
 -- ---- each table of the profile
 
 module _ (R : List ℕ) (e : judged R ≡ 0) (i : ℕ) (below : i < t R) where
-  pub table-shape : Shape (table R i) (m R) (kb R + m R) (z R i)
+  pub table-shape : Shape (table R i) (rows R) (columns R) (z R i)
   table-shape =
       let a = accepted R e in
       record {
@@ -33,66 +35,89 @@ module _ (R : List ℕ) (e : judged R ≡ 0) (i : ℕ) (below : i < t R) where
         shifts = a .shifts i below;
         z-some = a .z-low i below;
         z-most = a .z-high i below;
-        m-some = omega (arith, a .m-low);
-        m-most = a .m-high;
-        columns-most = omega (arith, a .kb-high, a .m-high);
+        rows-some = omega (arith, a .rows-low);
+        rows-most = a .rows-high;
+        columns-most = a .columns-high;
       }
 
-  pub table-stairs : Staircase (table R i) (kb R) (m R)
-  table-stairs = staircase-is (table R i) (kb R) (m R) (accepted R e .stairs i below)
+  pub table-stairs : Solvable (table R i) (kb R) (m R) (rows R) (columns R)
+  table-stairs =
+      record {
+        tall = rows-is R;
+        wide = columns-is R;
+        stairs = staircase-is (table R i) (kb R) (m R) (columns R) (accepted R e .stairs i below);
+      }
+
+  -- and what coding asks of it, for a word that is long enough
+  pub table-codable : (w : List ℕ) → length w ≡ columns R * z R i → Codable (table R i) (kb R) (m R) (columns R) (z R i) w
+  table-codable w long =
+      record {
+        shape = rw (rows-is R) at table-shape;
+        wide = omega (arith, columns-is R, rows-is R);
+        long = long;
+      }
 
 -- ---- the table of a size z'
 
 pub record Ready (R : List ℕ) (z' : ℕ) : Type 0 where
   pub below : firstBelow (t R) (λ i. eqb (z R i) z') < t R
-  pub shape : Shape (tableFor R z') (m R) (kb R + m R) z'
-  pub stairs : Staircase (tableFor R z') (kb R) (m R)
+  pub shape : Shape (tableFor R z') (rows R) (columns R) z'
+  pub stairs : Solvable (tableFor R z') (kb R) (m R) (rows R) (columns R)
+  pub codable : (w : List ℕ) → length w ≡ columns R * z' → Codable (tableFor R z') (kb R) (m R) (columns R) z' w
 
 pub ready : (R : List ℕ) (z' : ℕ) → judged R ≡ 0 → hasSize R z' ≡ true → Ready R z'
 unfolding hasSize tableFor
 ready R z' e h =
     let i : ℕ = firstBelow (t R) (λ j. eqb (z R j) z') in
     let found = first-some (t R) (λ j. eqb (z R j) z') h in
+    let size = eqb-true (z R i) z' (found .holds) in
     record {
       below = found .below;
-      shape = rw (eqb-true (z R i) z' (found .holds)) at (table-shape R e i (found .below));
+      shape = rw size at (table-shape R e i (found .below));
       stairs = table-stairs R e i (found .below);
+      codable = rw size at (table-codable R e i (found .below));
     }
 
--- ---- what is read from the profile: the table T, and k and n for kb and m
+-- ---- what is read from the profile: the table T, and k, n and c for its kb, its m or its rows, and its columns
 
-module _ (R : List ℕ) (z' : ℕ) (e : judged R ≡ 0) (h : hasSize R z' ≡ true) (k n : ℕ) (kb-is : k ≡ kb R) (m-is : n ≡ m R) where
+module _ (R : List ℕ) (z' : ℕ) (e : judged R ≡ 0) (h : hasSize R z' ≡ true) (c : ℕ) (c-is : c ≡ columns R) where
   -- the coded block is at most 32 groups of 81 places
-  pub places-most : (k + n) * z' ≤ 2592
+  pub places-most : c * z' ≤ 2592
   places-most =
       let shape = ready R z' e h .shape in
-      rw (kb-is, m-is) (mul-le-mul (shape .columns-most) (shape .z-most))
+      rw c-is (mul-le-mul (shape .columns-most) (shape .z-most))
 
-  pub shape-read : (T : List ℕ) → T ≡ tableFor R z' → Shape T n (k + n) z'
-  shape-read T table-is = rw (table-is, kb-is, m-is) (ready R z' e h .shape)
+  module _ (n : ℕ) (T : List ℕ) (table-is : T ≡ tableFor R z') where
+    pub shape-read : n ≡ rows R → Shape T n c z'
+    shape-read n-is = rw (table-is, n-is, c-is) (ready R z' e h .shape)
+
+    pub codable-read : (k : ℕ) → k ≡ kb R → n ≡ m R → (w : List ℕ) → length w ≡ columns R * z' → Codable T k n c z' w
+    codable-read k k-is n-is w long = rw (table-is, k-is, n-is, c-is) (ready R z' e h .codable w long)
 
 pub table-read : (R : List ℕ) (z' i : ℕ) (T : List ℕ) → T ≡ table R i → i ≡ firstBelow (t R) (λ j. eqb (z R j) z') → T ≡ tableFor R z'
 unfolding tableFor
 table-read R z' i T e q = e ∙ ap (table R) q
 
-module _ (R : List ℕ) (z' : ℕ) (T : List ℕ) (k n : ℕ) (table-is : T ≡ tableFor R z') (kb-is : k ≡ kb R) (m-is : n ≡ m R) where
-  pub check-read : (w : List ℕ) {r : Bool} → r ≡ checks T n (k + n) z' w → r ≡ checks (tableFor R z') (m R) (kb R + m R) z' w
-  check-read w e = rw (table-is, kb-is, m-is) at e
+module _ (R : List ℕ) (z' : ℕ) (T : List ℕ) (n c : ℕ) (table-is : T ≡ tableFor R z') (c-is : c ≡ columns R) where
+  pub check-read : n ≡ rows R → (w : List ℕ) {r : Bool} → r ≡ checks T n c z' w → r ≡ checks (tableFor R z') (rows R) (columns R) z' w
+  check-read n-is w e = rw (table-is, n-is, c-is) at e
 
   -- what coding in a word of its own comes to, where r says whether the word checks
-  module _ (places out : List ℕ) (e : blockNumber R z' places (length out) ≡ 0) (w : List ℕ) (h : Solution T k n z' places w)
-      (r : Bool) (tried : r ≡ checks T n (k + n) z' w) where
-    stairs-here : Staircase (tableFor R z') (kb R) (m R)
+  module _ (k : ℕ) (k-is : k ≡ kb R) (n-is : n ≡ m R) (places out : List ℕ) (e : blockNumber R z' places (length out) ≡ 0)
+      (w : List ℕ) (r : Bool) (h : Attempted T k n c z' places w r) where
+    stairs-here : Solvable (tableFor R z') (kb R) (m R) (rows R) (columns R)
     stairs-here = let taken = block-taken R z' places (length out) e in ready R z' (taken .judged) (taken .size) .stairs
 
-    solution-here : Solution (tableFor R z') (kb R) (m R) z' places w
-    solution-here = rw (table-is, kb-is, m-is) at h
+    solution-here : Solution (tableFor R z') (kb R) (m R) (columns R) z' places w
+    solution-here = rw (table-is, k-is, n-is, c-is) at (h .solution)
 
     long-places : length places ≡ kb R * z'
     long-places = block-taken R z' places (length out) e .long
 
-    has-parity : r ≡ hasParity (tableFor R z') (kb R) (m R) z' places
-    has-parity = check-read w tried ∙ solved-checks (kb R) (m R) z' places long-places (tableFor R z') stairs-here w solution-here
+    has-parity : r ≡ hasParity (tableFor R z') (rows R) (columns R) z' places
+    has-parity =
+        check-read (n-is ∙ sym (rows-is R)) w (h .tried)
+        ∙ solved-checks (tableFor R z') (rows R) (columns R) z' places (kb R) long-places stairs-here w solution-here
 
     pub attempt-none : r ≡ false → BlockCoded R z' places out (record { number = 15; count = 0 }) out
     attempt-none q = coded-none R z' places out e (sym has-parity ∙ q)
@@ -101,7 +126,7 @@ module _ (R : List ℕ) (z' : ℕ) (T : List ℕ) (k n : ℕ) (table-is : T ≡ 
         → BlockCoded R z' places out (record { number = 0; count = length w }) out'
     attempt-done q out' o =
         let has = sym has-parity ∙ q in
-        let long : length w ≡ (kb R + m R) * z' = solution-here .size in
-        let word : w ≡ coded (tableFor R z') (kb R) (m R) z' places =
-        solved-coded (kb R) (m R) z' places long-places (tableFor R z') stairs-here w solution-here has in
+        let long : length w ≡ columns R * z' = solution-here .size in
+        let word : w ≡ coded (tableFor R z') (rows R) (columns R) z' places =
+        solved-coded (tableFor R z') (rows R) (columns R) z' places (kb R) long-places stairs-here w solution-here has in
         coded-done R z' places out e has (length w) long out' (o ∙ ap₂ (λ (x : List ℕ) (y : ℕ). x ++ drop y out) word long)

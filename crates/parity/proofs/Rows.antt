@@ -12,8 +12,8 @@ use Rattle.bits.specs.Ranges.{sumBelow}
 use Rattle.bits.proofs.Ranges.{last-or}
 use Rattle.bits.proofs.Sums.{sum-more, sum-join, sum-same, sum-add, sum-one, sum-two}
 use Rattle.profile.specs.Record.{entry}
-use Rattle.parity.specs.steps.Grouped.{lowBit, entryBit, term, rowPart, stack}
 use Rattle.profile.proofs.Stairs.{Staircase}
+use Rattle.parity.specs.steps.Grouped.{lowBit, entryBit, term, rowPart, stack}
 use Rattle.parity.proofs.Spread.{entry-bit-empty}
 
 pub bit-lt : (w : List ℕ) (p : ℕ) → lowBit w p < 2
@@ -59,18 +59,18 @@ module _ (w : List ℕ) (kb m z u : ℕ) where
   edge-out zero h = refl
   edge-out (suc n) h = rw (le-ltb (suc n) m h)
 
-module _ (T : List ℕ) (kb m z : ℕ) (w : List ℕ) (S : Staircase T kb m) (u : ℕ) (low : u < z) where
+module _ (T : List ℕ) (kb m columns z : ℕ) (w : List ℕ) (S : Staircase T kb m columns) (u : ℕ) (low : u < z) where
   abbrev at : ℕ → ℕ → ℕ
-  at i j = term T (kb + m) z w i u j
+  at i j = term T columns z w i u j
 
   abbrev stair : ℕ → ℕ → ℕ
   stair i j = at i (kb + suc j)
 
-  on : (i j : ℕ) → entry T (kb + m) i (kb + suc j) ≡ 0 → suc j < m → stair i j ≡ edge w kb m z u (suc j)
+  on : (i j : ℕ) → entry T columns i (kb + suc j) ≡ 0 → suc j < m → stair i j ≡ edge w kb m z u (suc j)
   unfolding term
   on i j e h = entry-bit-zero z w _ ((kb + suc j) * z) u e low ∙ sym (edge-in w kb m z u j h)
 
-  off : (i j : ℕ) → entry T (kb + m) i (kb + suc j) ≡ 255 → stair i j ≡ 0
+  off : (i j : ℕ) → entry T columns i (kb + suc j) ≡ 255 → stair i j ≡ 0
   unfolding term
   off i j e = entry-bit-empty z w _ ((kb + suc j) * z) u e
 
@@ -92,7 +92,7 @@ module _ (T : List ℕ) (kb m z : ℕ) (w : List ℕ) (S : Staircase T kb m) (u 
       ∙ ap (λ (x : ℕ). edge w kb m z u (suc i) + x) (sym (edge-out w kb m z u (suc (suc i)) (omega arith))))
 
   pub row-shape : (i : ℕ) → i < m
-      → rowPart T (kb + m) z w (kb + m) i u ≡ rowPart T (kb + m) z w (suc kb) i u + (edge w kb m z u i + edge w kb m z u (suc i))
+      → rowPart T columns z w (kb + m) i u ≡ rowPart T columns z w (suc kb) i u + (edge w kb m z u i + edge w kb m z u (suc i))
   unfolding rowPart
   row-shape = by-rows m refl
     where

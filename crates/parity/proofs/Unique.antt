@@ -4,7 +4,7 @@ use mathlib.Core.List.{List}
 use Prim.Native.Nat.{ℕ, zero, suc, _+_, _-_, _*_, _/_, _%_, _≤_, _<_}
 use native.Mathlib.Nat.{suc-mul, add-zero, mod-lt, div-add-mod', div-lt-iff-lt-mul, le-div-iff-mul-le}
 use native.Mathlib.Omega.{arith}
-use lib.ListN.{getD}
+use lib.ListN.{length, getD}
 use lib.Seq.{ext-getD}
 use Rattle.bits.proofs.Ranges.{below-or}
 use Rattle.parity.specs.steps.Grouped.{lowBit, Solved, Solution}
@@ -23,11 +23,11 @@ place {A} kb m z p lo hi f = by-size z refl
         let c : kb + (p / z - kb) ≡ p / z = omega arith in
         f (p / z - kb) (p % z) (omega arith) (mod-lt p some) (ap (λ (x : ℕ). x * z + p % z) c ∙ div-add-mod' p z)
 
-module _ (T : List ℕ) (kb m z : ℕ) (v w : List ℕ) (hv : Solved T kb m z v) (hw : Solved T kb m z w)
+module _ (T : List ℕ) (kb m columns z : ℕ) (v w : List ℕ) (hv : Solved T kb m columns z v) (hw : Solved T kb m columns z w)
     (front : (p : ℕ) → p < kb * z → lowBit v p ≡ lowBit w p) where
   first-same : (u : ℕ) → u < z → lowBit v (kb * z + u) ≡ lowBit w (kb * z + u)
   first-same u l =
-      hv .first u l ∙ ap (λ (x : ℕ). x % 2) (stack-same T (kb + m) z v w kb (omega arith) front m u) ∙ sym (hw .first u l)
+      hv .first u l ∙ ap (λ (x : ℕ). x % 2) (stack-same T columns z v w kb (omega arith) front m u) ∙ sym (hw .first u l)
 
   wider : (p : ℕ) → p < suc kb * z → lowBit v p ≡ lowBit w p
   wider p l =
@@ -42,7 +42,7 @@ module _ (T : List ℕ) (kb m z : ℕ) (v w : List ℕ) (hv : Solved T kb m z v)
       let e : kb * z + u ≡ (kb + 0) * z + u = ap (λ (x : ℕ). x * z + u) (sym (add-zero kb)) in
       sym (ap (lowBit v) e) ∙ first-same u l ∙ ap (lowBit w) e
   column-same (suc n) u h l =
-      hv .next (suc n) u (omega arith) h l ∙ ap (λ (x : ℕ). x % 2) (stack-same T (kb + m) z v w (suc kb) (omega arith) wider (suc n) u)
+      hv .next (suc n) u (omega arith) h l ∙ ap (λ (x : ℕ). x % 2) (stack-same T columns z v w (suc kb) (omega arith) wider (suc n) u)
       ∙ sym (hw .next (suc n) u (omega arith) h l)
 
   pub bits-same : (p : ℕ) → p < (kb + m) * z → lowBit v p ≡ lowBit w p
@@ -50,12 +50,13 @@ module _ (T : List ℕ) (kb m z : ℕ) (v w : List ℕ) (hv : Solved T kb m z v)
       below-or p (kb * z) (front p)
       (λ h. place kb m z p h l (λ n u a b e. sym (ap (lowBit v) e) ∙ column-same n u a b ∙ ap (lowBit w) e))
 
-pub solution-unique : (T : List ℕ) (kb m z : ℕ) (sys v w : List ℕ) → Solution T kb m z sys v → Solution T kb m z sys w → v ≡ w
+pub solution-unique : (T : List ℕ) (kb m columns z : ℕ) → columns ≡ kb + m → (sys v w : List ℕ)
+    → Solution T kb m columns z sys v → Solution T kb m columns z sys w → v ≡ w
 unfolding lowBit
-solution-unique T kb m z sys v w hv hw =
+solution-unique T kb m columns z wide sys v w hv hw =
     ext-getD 0 v w (hv .size ∙ sym (hw .size))
     (λ p l.
     let front : (q : ℕ) → q < kb * z → getD v q 0 ≡ getD w q 0 = λ q h. hv .front q h ∙ sym (hw .front q h) in
-    let s = hv .size in
-    let b = bits-same T kb m z v w (hv .solved) (hw .solved) (λ q h. ap (λ (x : ℕ). x % 2) (front q h)) p (omega arith) in
+    let s : length v ≡ (kb + m) * z = hv .size ∙ ap (λ (n : ℕ). n * z) wide in
+    let b = bits-same T kb m columns z v w (hv .solved) (hw .solved) (λ q h. ap (λ (x : ℕ). x % 2) (front q h)) p (omega arith) in
     below-or p (kb * z) (front p) (λ h. omega (arith, b, hv .bits p h, hw .bits p h)))

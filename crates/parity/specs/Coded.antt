@@ -1,24 +1,24 @@
--- The coded block (document 01, step 4). T is a table of m rows and kb + m columns.
+-- The coded block (document 01, step 4). T is a table of so many rows and columns.
 use mathlib.Core.Bool.{Bool}
 use mathlib.Core.List.{List, _++_}
-use Prim.Native.Nat.{ℕ, _+_, _*_, _^_}
+use Prim.Native.Nat.{ℕ, _*_, _^_}
 use Rattle.bits.specs.Bits.{digits}
 use Rattle.bits.specs.Ranges.{anyBelow, firstBelow}
 use Rattle.parity.specs.Matrix.{checks}
 
 -- "K systematic places and then m·z parity bits": the word of the places sys with the n-th choice of parity bits
 unfoldable pub withParity : ℕ → ℕ → List ℕ → ℕ → List ℕ
-withParity m z sys n = sys ++ digits (m * z) n
+withParity rows z sys n = sys ++ digits (rows * z) n
 
 -- "It must check with filler read as 0": the n-th choice does
 unfoldable pub checksWith : List ℕ → ℕ → ℕ → ℕ → List ℕ → ℕ → Bool
-checksWith T kb m z sys n = checks T m (kb + m) z (withParity m z sys n)
+checksWith T rows columns z sys n = checks T rows columns z (withParity rows z sys n)
 
 -- there are parity bits with which the block checks (number 15 where there are none)
 unfoldable pub hasParity : List ℕ → ℕ → ℕ → ℕ → List ℕ → Bool
-hasParity T kb m z sys = anyBelow (2 ^ (m * z)) (checksWith T kb m z sys)
+hasParity T rows columns z sys = anyBelow (2 ^ (rows * z)) (checksWith T rows columns z sys)
 
 -- the coded block: the places with the first choice of parity bits with which they check (there is one at most; where there is none, 15 is answered);
 -- "Filler places stay marked"
 unfoldable pub coded : List ℕ → ℕ → ℕ → ℕ → List ℕ → List ℕ
-coded T kb m z sys = withParity m z sys (firstBelow (2 ^ (m * z)) (checksWith T kb m z sys))
+coded T rows columns z sys = withParity rows z sys (firstBelow (2 ^ (rows * z)) (checksWith T rows columns z sys))

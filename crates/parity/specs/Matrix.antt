@@ -1,5 +1,5 @@
--- The parity check, spread out (document 01, "Shelf and profile records"; 5.1.3.2 of 5G.212). T is a table of m rows of `columns` entries;
--- it stands for a matrix of m·z rows over columns·z places.
+-- The parity check, spread out (document 01, "Shelf and profile records"; 5.1.3.2 of 5G.212). T is a table of so many rows and columns;
+-- it stands for a matrix of rows·z rows over columns·z places.
 use mathlib.Core.Bool.{Bool, cond}
 use mathlib.Core.List.{List}
 use Prim.Native.Nat.{ℕ, _+_, _*_, _/_, _%_}
@@ -25,4 +25,4 @@ unfoldable pub rowEven : List ℕ → ℕ → ℕ → List ℕ → ℕ → Bool
 rowEven T columns z w row = eqb (parityBelow (columns * z) (λ place. spread T columns z row place * bitAt w place)) 0
 
 unfoldable pub checks : List ℕ → ℕ → ℕ → ℕ → List ℕ → Bool
-checks T m columns z w = allBelow (m * z) (rowEven T columns z w)
+checks T rows columns z w = allBelow (rows * z) (rowEven T columns z w)

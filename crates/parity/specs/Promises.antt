@@ -2,14 +2,14 @@
 use mathlib.Core.Path.{_≡_}
 use mathlib.Core.Bool.{Bool, false, not, _||_}
 use mathlib.Core.List.{List, [], _∷_, _++_}
-use Prim.Native.Nat.{ℕ, _+_, _*_}
+use Prim.Native.Nat.{ℕ, _*_}
 use lib.Dec.{eqb, ltb}
 use lib.ListN.{length, drop}
 use Rattle.bits.specs.Bits.{someOver}
 use Rattle.bits.specs.Numbers.{answered, whenDone}
 use Rattle.bits.specs.Ranges.{anyBelow, firstBelow}
 use Rattle.bits.specs.declared.number.Written.{Written}
-use Rattle.profile.specs.Record.{kb, m, t, z, table}
+use Rattle.profile.specs.Record.{kb, t, z, rows, columns, table}
 use Rattle.profile.specs.Promises.{judgeConditions}
 use Rattle.parity.specs.Matrix.{checks}
 use Rattle.parity.specs.Coded.{hasParity, coded}
@@ -32,30 +32,30 @@ unfit R z' n w = not (hasSize R z') || not (eqb (length w) (n * z'))
 -- are taken too"
 abbrev pub blockConditions : List ℕ → ℕ → List ℕ → ℕ → List (ℕ × Bool)
 blockConditions R z' places lent =
-    judgeConditions R ++ (8, unfit R z' (kb R) places) ∷ (11, ltb lent ((kb R + m R) * z')) ∷ (12, someOver 2 places) ∷ []
+    judgeConditions R ++ (8, unfit R z' (kb R) places) ∷ (11, ltb lent (columns R * z')) ∷ (12, someOver 2 places) ∷ []
 
 -- and then 15 as sending answers it, "some block has no parity bits with which it checks"
 abbrev pub codeConditions : List ℕ → ℕ → List ℕ → ℕ → List (ℕ × Bool)
 codeConditions R z' places lent =
-    blockConditions R z' places lent ++ (15, not (hasParity (tableFor R z') (kb R) (m R) z' places)) ∷ []
+    blockConditions R z' places lent ++ (15, not (hasParity (tableFor R z') (rows R) (columns R) z' places)) ∷ []
 
 unfoldable pub codeNumber : List ℕ → ℕ → List ℕ → ℕ → ℕ
 codeNumber R z' places lent = answered (codeConditions R z' places lent)
 
 pub record BlockCoded (R : List ℕ) (z' : ℕ) (places out : List ℕ) (r : Written) (out' : List ℕ) : Type 0 where
   pub number : r .number ≡ codeNumber R z' places (length out)
-  pub count : r .count ≡ whenDone (codeNumber R z' places (length out)) ((kb R + m R) * z') 0
-  pub output : out' ≡ whenDone (codeNumber R z' places (length out)) (coded (tableFor R z') (kb R) (m R) z' places ++ drop ((kb R + m R) * z') out) out
+  pub count : r .count ≡ whenDone (codeNumber R z' places (length out)) (columns R * z') 0
+  pub output : out' ≡ whenDone (codeNumber R z' places (length out)) (coded (tableFor R z') (rows R) (columns R) z' places ++ drop (columns R * z') out) out
 
 -- ---- checking one word of bits
 
 -- "5 and 6 for a profile", 8, 12 "for any octet over 1 where single bits are taken"
 abbrev pub checkConditions : List ℕ → ℕ → List ℕ → List (ℕ × Bool)
-checkConditions R z' word = judgeConditions R ++ (8, unfit R z' (kb R + m R) word) ∷ (12, someOver 1 word) ∷ []
+checkConditions R z' word = judgeConditions R ++ (8, unfit R z' (columns R) word) ∷ (12, someOver 1 word) ∷ []
 
 unfoldable pub checkNumber : List ℕ → ℕ → List ℕ → ℕ
 checkNumber R z' word = answered (checkConditions R z' word)
 
 pub record WordChecked (R : List ℕ) (z' : ℕ) (word : List ℕ) (r : Verdict) : Type 0 where
   pub number : r .number ≡ checkNumber R z' word
-  pub checks : r .checks ≡ whenDone (checkNumber R z' word) (checks (tableFor R z') (m R) (kb R + m R) z' word) false
+  pub checks : r .checks ≡ whenDone (checkNumber R z' word) (checks (tableFor R z') (rows R) (columns R) z' word) false

@@ -1,4 +1,4 @@
-// What the public calls refuse: the lowest number that applies, found before anything is done.
+// What the public calls refuse: the first number of their lists whose condition holds, found before anything is done.
 use bits::number::DONE;
 use bits::number::NO_BIT;
 use bits::number::PARAMETER;
@@ -30,11 +30,11 @@ pub fn block_number(profile: &[u8], z: usize, places: &[u8], room: usize) -> u32
         return number;
     }
     let kb = profile::inner::kb(profile);
-    let m = profile::inner::m(profile);
+    let columns = profile::inner::columns(profile);
     if is_unfit(profile, z, kb, places) {
         return PARAMETER;
     }
-    if room < (kb + m) * z {
+    if room < columns * z {
         return SHORT_OUTPUT;
     }
     if bits::inner::some_over(2, places) {
@@ -51,8 +51,8 @@ pub fn word_number(profile: &[u8], z: usize, word: &[u8]) -> u32
     if judged != DONE {
         return judged;
     }
-    let n = profile::inner::kb(profile) + profile::inner::m(profile);
-    if is_unfit(profile, z, n, word) {
+    let columns = profile::inner::columns(profile);
+    if is_unfit(profile, z, columns, word) {
         return PARAMETER;
     }
     if bits::inner::some_over(1, word) {

@@ -3,49 +3,65 @@ use crate::run;
 use crate::stairs;
 use crate::sums;
 ghost use mathlib.Core.Path.{_≡_};
-ghost use Prim.Native.Nat.{_+_, _*_};
+ghost use Prim.Native.Nat.{_*_};
 ghost use lib.ListN.{length};
 ghost use Rattle.parity.specs.Matrix.{checks};
-ghost use Rattle.parity.specs.steps.Grouped.{Shape, Solution};
+ghost use Rattle.parity.specs.steps.Grouped.{Shape, Codable, Solution, Attempted};
 ghost use Rattle.parity.specs.steps.Runs.{Sums};
 
 // Whether the word checks: every row of the spread-out matrix sums to an even number over it.
-pub fn checks(table: &[u8], kb: usize, m: usize, z: usize, word: &[u8]) -> bool
-    requires { ⌜ Shape (now table) m (kb + m) z × (length (now word) ≡ (kb + m) * z) ⌝ }
-    ensures { λ r. ⌜ r ≡ checks (now (table .entry)) m (kb + m) z (now (word .entry)) ⌝ }
+pub fn checks(table: &[u8], rows: usize, columns: usize, z: usize, word: &[u8]) -> bool
+    requires { ⌜ Shape (now table) rows columns z × (length (now word) ≡ columns * z) ⌝ }
+    ensures { λ r. ⌜ r ≡ checks (now (table .entry)) rows columns z (now (word .entry)) ⌝ }
 {
     let mut room = [0u8; 972];
-    let n = m * z;
-    sums::are_even(table, m, kb + m, z, word, &mut room[..n])
+    let n = rows * z;
+    sums::are_even(table, rows, columns, z, word, &mut room[..n])
 }
 
 // Writes the parity places of the word behind its systematic ones. `room` holds the sums of the rows, zeros at first.
-fn solve(table: &[u8], kb: usize, m: usize, z: usize, word: &mut [u8], room: &mut [u8])
-    requires { ⌜ Shape (now table) m (kb + m) z × (length (now word) ≡ (kb + m) * z) × Sums (now table) m (kb + m) z (now word) 0 0 (now room) ⌝ }
-    ensures { λ _. ⌜ Solution (now (table .entry)) kb m z (now (word .entry)) (now (word .exit)) ⌝ }
+fn solve(
+    table: &[u8],
+    kb: usize,
+    m: usize,
+    columns: usize,
+    z: usize,
+    word: &mut [u8],
+    room: &mut [u8],
+)
+    requires { ⌜ Codable (now table) kb m columns z (now word) × Sums (now table) m columns z (now word) 0 0 (now room) ⌝ }
+    ensures { λ _. ⌜ Solution (now (table .entry)) kb m columns z (now (word .entry)) (now (word .exit)) ⌝ }
 {
-    sums::add_columns(table, m, kb + m, z, 0, kb, word, room);
+    sums::add_columns(table, m, columns, z, 0, kb, word, room);
     stairs::lay_first(room, m, z, word, kb * z);
-    sums::add_columns(table, m, kb + m, z, kb, kb + 1, word, room);
+    sums::add_columns(table, m, columns, z, kb, kb + 1, word, room);
     stairs::lay_next(room, m, z, word, (kb + 1) * z);
 }
 
 // Writes the parity places of the word whose systematic places, bits and filler marks, stand in front.
-pub fn code(table: &[u8], kb: usize, m: usize, z: usize, word: &mut [u8])
-    requires { ⌜ Shape (now table) m (kb + m) z × (length (now word) ≡ (kb + m) * z) ⌝ }
-    ensures { λ _. ⌜ Solution (now (table .entry)) kb m z (now (word .entry)) (now (word .exit)) ⌝ }
+pub fn code(table: &[u8], kb: usize, m: usize, columns: usize, z: usize, word: &mut [u8])
+    requires { ⌜ Codable (now table) kb m columns z (now word) ⌝ }
+    ensures { λ _. ⌜ Solution (now (table .entry)) kb m columns z (now (word .entry)) (now (word .exit)) ⌝ }
 {
     let mut room = [0u8; 972];
     let used = m * z;
-    solve(table, kb, m, z, word, &mut room[..used]);
+    solve(table, kb, m, columns, z, word, &mut room[..used]);
 }
 
 // Codes the places in `word`, and answers whether the word checks: where it does not, no parity bits do (15).
-pub fn attempt(table: &[u8], kb: usize, m: usize, z: usize, places: &[u8], word: &mut [u8]) -> bool
-    requires { ⌜ Shape (now table) m (kb + m) z × (length (now places) ≡ kb * z) × (length (now word) ≡ (kb + m) * z) ⌝ }
-    ensures { λ r. ⌜ (r ≡ checks (now (table .entry)) m (kb + m) z (now (word .exit))) × Solution (now (table .entry)) kb m z (now (places .entry)) (now (word .exit)) ⌝ }
+pub fn attempt(
+    table: &[u8],
+    kb: usize,
+    m: usize,
+    columns: usize,
+    z: usize,
+    places: &[u8],
+    word: &mut [u8],
+) -> bool
+    requires { ⌜ Codable (now table) kb m columns z (now word) × (length (now places) ≡ kb * z) ⌝ }
+    ensures { λ r. ⌜ Attempted (now (table .entry)) kb m columns z (now (places .entry)) (now (word .exit)) r ⌝ }
 {
     run::copy(word, places);
-    code(table, kb, m, z, word);
-    checks(table, kb, m, z, word)
+    code(table, kb, m, columns, z, word);
+    checks(table, m, columns, z, word)
 }

@@ -9,9 +9,9 @@ use bits::number::DONE;
 use bits::number::NO_PARITY;
 use bits::number::Written;
 ghost use mathlib.Core.Path.{_≡_};
-ghost use Prim.Native.Nat.{_+_, _*_};
+ghost use Prim.Native.Nat.{_*_};
 ghost use lib.ListN.{length};
-ghost use Rattle.profile.specs.Record.{kb, m};
+ghost use Rattle.profile.specs.Record.{columns};
 ghost use Rattle.parity.specs.Promises.{BlockCoded, WordChecked};
 ghost use Rattle.parity.specs.steps.Gate.{blockNumber};
 
@@ -23,14 +23,15 @@ pub struct Verdict {
 
 // Codes places that no number before 15 refuses. They are coded in `word`, which is handed out only where it checks.
 fn code_in(profile: &[u8], z: usize, places: &[u8], word: &mut [u8], out: &mut [u8]) -> Written
-    requires { ⌜ (blockNumber (now profile) z (now places) (length (now out)) ≡ 0) × (length (now word) ≡ (kb (now profile) + m (now profile)) * z) ⌝ }
+    requires { ⌜ (blockNumber (now profile) z (now places) (length (now out)) ≡ 0) × (length (now word) ≡ columns (now profile) * z) ⌝ }
     ensures { λ r. ⌜ BlockCoded (now (profile .entry)) z (now (places .entry)) (now (out .entry)) r (now (out .exit)) ⌝ }
 {
     let kb = profile::inner::kb(profile);
     let m = profile::inner::m(profile);
+    let columns = profile::inner::columns(profile);
     let index = profile::inner::index_of(profile, z);
     let table = profile::inner::table(profile, index);
-    if !inner::attempt(table, kb, m, z, places, word) {
+    if !inner::attempt(table, kb, m, columns, z, places, word) {
         return Written {
             number: NO_PARITY,
             count: 0,
@@ -51,7 +52,7 @@ pub fn code_block(profile: &[u8], z: usize, places: &[u8], out: &mut [u8]) -> Wr
     if number != DONE {
         return Written { number, count: 0 };
     }
-    let n = (profile::inner::kb(profile) + profile::inner::m(profile)) * z;
+    let n = profile::inner::columns(profile) * z;
     let mut word = [0u8; 2592];
     code_in(profile, z, places, &mut word[..n], out)
 }
@@ -67,10 +68,10 @@ pub fn check_word(profile: &[u8], z: usize, word: &[u8]) -> Verdict
             checks: false,
         };
     }
-    let kb = profile::inner::kb(profile);
-    let m = profile::inner::m(profile);
+    let rows = profile::inner::rows(profile);
+    let columns = profile::inner::columns(profile);
     let at = profile::inner::index_of(profile, z);
     let table = profile::inner::table(profile, at);
-    let checks = inner::checks(table, kb, m, z, word);
+    let checks = inner::checks(table, rows, columns, z, word);
     Verdict { number, checks }
 }

@@ -1,14 +1,12 @@
 // The parity columns from the sums of the rows, down the staircase.
 use crate::run;
-ghost use mathlib.Core.Path.{_≡_};
-ghost use Prim.Native.Nat.{_+_, _-_, _*_, _≤_, _<_};
+ghost use Prim.Native.Nat.{_+_, _-_, _*_, _≤_};
 ghost use lib.ListN.{length};
-ghost use Rattle.bits.specs.Bits.{AreBits};
-ghost use Rattle.parity.specs.steps.Runs.{Groups, allRows, rowsAbove};
+ghost use Rattle.parity.specs.steps.Runs.{Groups, allRows, rowsAbove, Stacked};
 
 // The first parity column, at `at`: all rows together.
 pub fn lay_first(sums: &[u8], m: usize, z: usize, word: &mut [u8], at: usize)
-    requires { ⌜ (length (now sums) ≡ m * z) × AreBits (now sums) × (0 < m) × (m ≤ 12) × (z ≤ 81) × (at + z ≤ length (now word)) ⌝ }
+    requires { ⌜ Stacked (now sums) m z × (at + z ≤ length (now word)) ⌝ }
     ensures { λ _. ⌜ Groups z 1 (allRows (now (sums .entry)) z m) (now (word .entry)) at (now (word .exit)) ⌝ }
 {
     let mut group = [0u8; 81];
@@ -24,7 +22,7 @@ pub fn lay_first(sums: &[u8], m: usize, z: usize, word: &mut [u8], at: usize)
 
 // The other parity columns, from `at` on: each is the rows above its step together.
 pub fn lay_next(sums: &[u8], m: usize, z: usize, word: &mut [u8], at: usize)
-    requires { ⌜ (length (now sums) ≡ m * z) × AreBits (now sums) × (0 < m) × (m ≤ 12) × (z ≤ 81) × (at + (m - 1) * z ≤ length (now word)) ⌝ }
+    requires { ⌜ Stacked (now sums) m z × (at + (m - 1) * z ≤ length (now word)) ⌝ }
     ensures { λ _. ⌜ Groups z (m - 1) (rowsAbove (now (sums .entry)) z) (now (word .entry)) at (now (word .exit)) ⌝ }
 {
     let mut group = [0u8; 81];

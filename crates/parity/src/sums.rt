@@ -7,8 +7,7 @@ ghost use lib.ListN.{length};
 ghost use Rattle.bits.specs.Bits.{AreBits};
 ghost use Rattle.profile.specs.Record.{empty};
 ghost use Rattle.parity.specs.Matrix.{checks};
-ghost use Rattle.parity.specs.steps.Grouped.{Shape};
-ghost use Rattle.parity.specs.steps.Runs.{Run, entered, Doubled, Sums};
+ghost use Rattle.parity.specs.steps.Runs.{Run, entered, Doubled, Sums, Adding};
 
 // A column's group of z bits twice, one after the other: what a shift s turns round is then one straight run from s on.
 fn double(word: &[u8], base: usize, z: usize, g: &mut [u8])
@@ -40,7 +39,7 @@ fn add_entry(s: u8, g: &[u8], z: usize, sums: &mut [u8], at: usize)
 // Column j into the sums of all rows. g is room for its doubled group.
 fn add_column(
     table: &[u8],
-    m: usize,
+    rows: usize,
     columns: usize,
     z: usize,
     j: usize,
@@ -48,14 +47,14 @@ fn add_column(
     g: &mut [u8],
     sums: &mut [u8],
 )
-    requires { ⌜ Shape (now table) m columns z × (j < columns) × (length (now word) ≡ columns * z) × (length (now g) ≡ 162) × AreBits (now g) × Sums (now table) m columns z (now word) j 0 (now sums) ⌝ }
-    ensures { λ _. ⌜ AreBits (now (g .exit)) × Sums (now (table .entry)) m columns z (now (word .entry)) (j + 1) 0 (now (sums .exit)) ⌝ }
+    requires { ⌜ Adding (now table) rows columns z (now word) j (now sums) × (j < columns) × (length (now g) ≡ 162) × AreBits (now g) ⌝ }
+    ensures { λ _. ⌜ AreBits (now (g .exit)) × Sums (now (table .entry)) rows columns z (now (word .entry)) (j + 1) 0 (now (sums .exit)) ⌝ }
 {
     double(word, j * z, z, g);
     let mut at = 0;
     let mut e = j;
     let mut i = 0;
-    while i < m {
+    while i < rows {
         add_entry(table[e], g, z, sums, at);
         at += z;
         e += columns;
@@ -66,7 +65,7 @@ fn add_column(
 // The columns `from` .. `to` − 1 into the sums, which hold those before.
 pub fn add_columns(
     table: &[u8],
-    m: usize,
+    rows: usize,
     columns: usize,
     z: usize,
     from: usize,
@@ -74,13 +73,13 @@ pub fn add_columns(
     word: &[u8],
     sums: &mut [u8],
 )
-    requires { ⌜ Shape (now table) m columns z × (from ≤ to) × (to ≤ columns) × (length (now word) ≡ columns * z) × Sums (now table) m columns z (now word) from 0 (now sums) ⌝ }
-    ensures { λ _. ⌜ Sums (now (table .entry)) m columns z (now (word .entry)) to 0 (now (sums .exit)) ⌝ }
+    requires { ⌜ Adding (now table) rows columns z (now word) from (now sums) × (from ≤ to) × (to ≤ columns) ⌝ }
+    ensures { λ _. ⌜ Sums (now (table .entry)) rows columns z (now (word .entry)) to 0 (now (sums .exit)) ⌝ }
 {
     let mut g = [0u8; 162];
     let mut j = from;
     while j < to {
-        add_column(table, m, columns, z, j, word, &mut g, sums);
+        add_column(table, rows, columns, z, j, word, &mut g, sums);
         j += 1;
     }
 }
@@ -88,15 +87,15 @@ pub fn add_columns(
 // Whether all rows sum to even numbers over the whole word. It looks at every sum, with no early way out.
 pub fn are_even(
     table: &[u8],
-    m: usize,
+    rows: usize,
     columns: usize,
     z: usize,
     word: &[u8],
     sums: &mut [u8],
 ) -> bool
-    requires { ⌜ Shape (now table) m columns z × (length (now word) ≡ columns * z) × Sums (now table) m columns z (now word) 0 0 (now sums) ⌝ }
-    ensures { λ r. ⌜ r ≡ checks (now (table .entry)) m columns z (now (word .entry)) ⌝ }
+    requires { ⌜ Adding (now table) rows columns z (now word) 0 (now sums) ⌝ }
+    ensures { λ r. ⌜ r ≡ checks (now (table .entry)) rows columns z (now (word .entry)) ⌝ }
 {
-    add_columns(table, m, columns, z, 0, columns, word, sums);
+    add_columns(table, rows, columns, z, 0, columns, word, sums);
     !bits::inner::some_over(0, sums)
 }

@@ -1,5 +1,5 @@
 -- What is known of a record that is judged with 0.
-use mathlib.Core.Path.{_≡_, refl, sym, _∙_}
+use mathlib.Core.Path.{_≡_, sym, _∙_}
 use mathlib.Core.Bool.{true, not}
 use mathlib.Core.List.{List, [], _∷_}
 use Prim.Native.Nat.{ℕ, _+_, _*_, _≤_, _<_}
@@ -9,11 +9,11 @@ use borrow.Author.Tests.{not-false}
 use Rattle.bits.specs.Ranges.{allBelow}
 use Rattle.bits.proofs.Ranges.{both, all-at}
 use Rattle.bits.proofs.Answers.{passed}
-use Rattle.profile.specs.Record.{kb, m, t, z, offset, tableSize, table, empty, offsetDue, tableRight, wellFormed}
+use Rattle.profile.specs.Record.{kb, m, t, z, offset, rows, columns, tableSize, table, empty, offsetDue, tableRight, wellFormed}
 use Rattle.profile.specs.Staircase.{staircase, staircases}
 use Rattle.profile.specs.Promises.{judged}
 use Rattle.profile.specs.steps.Shape.{shapeRight}
-use Rattle.profile.proofs.Shape.{Shape, shape-is, table-long, rise, formed-is, entries-below}
+use Rattle.profile.proofs.Shape.{area-is, Shape, shape-is, table-long, rise, formed-is, entries-below}
 
 pub record Accepted (R : List ℕ) : Type 0 where
   pub kb-low : 1 ≤ kb R
@@ -22,15 +22,19 @@ pub record Accepted (R : List ℕ) : Type 0 where
   pub m-high : m R ≤ 12
   pub t-low : 1 ≤ t R
   pub t-high : t R ≤ 3
+  pub rows-low : 3 ≤ rows R
+  pub rows-high : rows R ≤ 12
+  pub columns-low : 4 ≤ columns R
+  pub columns-high : columns R ≤ 32
   pub z-low : (i : ℕ) → i < t R → 1 ≤ z R i
   pub z-high : (i : ℕ) → i < t R → z R i ≤ 81
   pub rise : (i j : ℕ) → i < j → j < t R → z R i < z R j
   pub chained : (i : ℕ) → i < t R → offset R i ≡ offsetDue R i
   pub inside : (i : ℕ) → i < t R → offset R i + tableSize R ≤ length R
-  pub area : tableSize R ≡ m R * (kb R + m R)
+  pub area : tableSize R ≡ rows R * columns R
   pub long : (i : ℕ) → i < t R → length (table R i) ≡ tableSize R
   pub shifts : (i : ℕ) → i < t R → (k : ℕ) → (getD (table R i) k 0 ≡ empty → ⊥) → getD (table R i) k 0 < z R i
-  pub stairs : (i : ℕ) → i < t R → staircase (table R i) (kb R) (m R) ≡ true
+  pub stairs : (i : ℕ) → i < t R → staircase (table R i) (kb R) (m R) (columns R) ≡ true
 
 module _ (R : List ℕ) where
   -- the tests that a record with number 0 has passed
@@ -46,7 +50,7 @@ module _ (R : List ℕ) where
   accepted-shape e = shape-is R (tests-passed e .0)
 
   pub accepted : judged R ≡ 0 → Accepted R
-  unfolding tableSize staircases
+  unfolding staircases
   accepted e =
       let tests = tests-passed e in
       let s = accepted-shape e in
@@ -58,13 +62,17 @@ module _ (R : List ℕ) where
         m-high = s .header .m-high;
         t-low = s .header .t-low;
         t-high = s .header .t-high;
+        rows-low = s .header .rows-low;
+        rows-high = s .header .rows-high;
+        columns-low = s .header .columns-low;
+        columns-high = s .header .columns-high;
         z-low = low;
         z-high = λ i l. s .size i l .z-high;
         rise = rise R s;
         chained = λ i l. s .size i l .chained;
         inside = s .inside;
-        area = refl;
+        area = area-is R;
         long = table-long R s;
         shifts = λ i l. entries-below R i (low i l) (table-long R s i l) (all-at (t R) (tableRight R) (tests .1) i l);
-        stairs = λ i l. all-at (t R) (λ j. staircase (table R j) (kb R) (m R)) (tests .2) i l;
+        stairs = λ i l. all-at (t R) (λ j. staircase (table R j) (kb R) (m R) (columns R)) (tests .2) i l;
       }

@@ -2,7 +2,5 @@ pub mod Shape
 pub mod Stairs
 pub mod Walk
 pub mod Accepted
-pub mod Rounding
-pub mod Plans
 pub mod Answers
 pub mod Agreement

@@ -3,29 +3,19 @@ use mathlib.Core.Path.{_≡_, refl, sym, ap}
 use mathlib.Core.Bool.{Bool, true, false, _&&_}
 use mathlib.Core.List.{List}
 use Prim.Native.Nat.{ℕ, zero, suc, _+_, _-_, _*_, _≤_, _<_}
-use native.Mathlib.Nat.{suc-mul, mul-le-mul, mul-le-mul-right}
+use native.Mathlib.Nat.{suc-mul, mul-le-mul-right}
 use native.Mathlib.Numerals.{sub-one}
 use native.Mathlib.Omega.{arith}
 use lib.Dec.{eqb, leb, ltb}
 use lib.ListN.{length, getD, List·getD-eq-default}
 use borrow.Author.Tests.{ltb-true, leb-true, eqb-true, lt-ltb, le-ltb, le-leb, eq-eqb, ne-eqb}
-use Rattle.bits.specs.Ranges.{allBelow}
-use Rattle.bits.proofs.Ranges.{last-or, below-or, both, all-at, all-of}
+use Rattle.bits.specs.Ranges.{allBelow, within}
+use Rattle.bits.proofs.Ranges.{last-or, below-or, both, all-at, all-of, within-is, either-way}
 use Rattle.bits.proofs.Lists.{length-part}
-use Rattle.profile.specs.Record.{kb, m, t, z, offset, tableSize, table, empty, within, headerRight, rises, sizesRight, offsetDue, offsetsRight, endsRight, shiftRight, tableRight, wellFormed}
+use Rattle.profile.specs.Record.{kb, m, t, z, offset, rows, columns, tableSize, table, empty, headerRight, rises, sizesRight, offsetDue, offsetsRight, endsRight, shiftRight, tableRight, wellFormed}
 use Rattle.profile.specs.steps.Shape.{frontRight, sizeRight, shapeRight, Sized}
 
-pub within-is : (least most n : ℕ) → within least most n ≡ true → (least ≤ n) × (n ≤ most)
-within-is least most n e =
-    let parts = both (leb least n) (leb n most) e in
-    (leb-true least n (parts .0), leb-true n most (parts .1))
-
 -- ---- a test is the one that is asked for, however it is written
-
-pub either-way : (a b : Bool) → (a ≡ true → b ≡ true) → (b ≡ true → a ≡ true) → a ≡ b
-either-way true b f g = sym (f refl)
-either-way false true f g = g refl
-either-way false false f g = refl
 
 pub same-test : (r : Bool) (x y : ℕ) → (r ≡ true → x ≡ y) → (r ≡ false → x ≡ y → ⊥) → r ≡ eqb x y
 same-test true x y f g = sym (eq-eqb x y (f refl))
@@ -34,6 +24,21 @@ same-test false x y f g = sym (ne-eqb x y (g refl))
 pub less-test : (r : Bool) (x y : ℕ) → (r ≡ true → x < y) → (r ≡ false → y ≤ x) → r ≡ ltb x y
 less-test true x y f g = sym (lt-ltb x y (f refl))
 less-test false x y f g = sym (le-ltb x y (g refl))
+
+-- ---- a table's rows and columns
+
+module _ (R : List ℕ) where
+  pub rows-is : rows R ≡ m R
+  unfolding rows
+  rows-is = refl
+
+  pub columns-is : columns R ≡ kb R + rows R
+  unfolding columns
+  columns-is = refl
+
+  pub area-is : tableSize R ≡ rows R * columns R
+  unfolding tableSize
+  area-is = refl
 
 -- ---- the header
 
@@ -45,6 +50,10 @@ pub record Header (R : List ℕ) : Type 0 where
   pub m-high : m R ≤ 12
   pub t-low : 1 ≤ t R
   pub t-high : t R ≤ 3
+  pub rows-low : 3 ≤ rows R
+  pub rows-high : rows R ≤ 12
+  pub columns-low : 4 ≤ columns R
+  pub columns-high : columns R ≤ 32
 
 module _ (R : List ℕ) where
   pub header-is : frontRight R ≡ true → Header R
@@ -64,13 +73,11 @@ module _ (R : List ℕ) where
         m-high = r .1;
         t-low = n .0;
         t-high = n .1;
+        rows-low = omega (arith, r, rows-is R);
+        rows-high = omega (arith, r, rows-is R);
+        columns-low = omega (arith, k, r, rows-is R, columns-is R);
+        columns-high = omega (arith, k, r, rows-is R, columns-is R);
       }
-
-  pub table-most : Header R → m R * (kb R + m R) ≤ 384
-  table-most h =
-      let columns : kb R + m R ≤ 32 = omega (arith, h .kb-high, h .m-high) in
-      let all : m R * (kb R + m R) ≤ 12 * 32 = mul-le-mul (h .m-high) columns in
-      omega arith
 
   -- ---- the length and the sizes
 
@@ -86,6 +93,32 @@ module _ (R : List ℕ) where
 
   pub pair-there : endsRight R ≡ true → (i : ℕ) → i < t R → 10 + 4 * i ≤ length R
   pair-there e i l = omega (arith, ends e)
+
+  -- the code's three tests of a size, and its three of the shape, in their order
+  module _ (i : ℕ) where
+    pub size-first : within 1 81 (z R i) ≡ false → false ≡ sizeRight R i
+    unfolding sizeRight
+    size-first a = rw a
+
+    pub size-second : within 1 81 (z R i) ≡ true → rises R i ≡ false → false ≡ sizeRight R i
+    unfolding sizeRight
+    size-second a b = rw (a, b)
+
+    pub size-third : within 1 81 (z R i) ≡ true → rises R i ≡ true → (r : Bool) → r ≡ eqb (offset R i) (offsetDue R i) → r ≡ sizeRight R i
+    unfolding sizeRight
+    size-third a b r e = rw (a, b) e
+
+  pub shape-first : frontRight R ≡ false → false ≡ shapeRight R
+  unfolding shapeRight
+  shape-first a = rw a
+
+  pub shape-second : frontRight R ≡ true → endsRight R ≡ false → false ≡ shapeRight R
+  unfolding shapeRight
+  shape-second a b = rw (a, b)
+
+  pub shape-third : frontRight R ≡ true → endsRight R ≡ true → (r : Bool) → r ≡ allBelow (t R) (sizeRight R) → r ≡ shapeRight R
+  unfolding shapeRight
+  shape-third a b r e = rw (a, b) e
 
   pub record Size (i : ℕ) : Type 0 where
     pub z-low : 1 ≤ z R i
@@ -136,12 +169,12 @@ module _ (R : List ℕ) where
     unfolding table
     table-long i l = length-part (tableSize R) (offset R i) R (s .inside i l)
 
-    pub table-sized : (i : ℕ) → i < t R → Sized (table R i) (kb R) (m R)
-    unfolding tableSize
+    pub table-sized : (i : ℕ) → i < t R → Sized (table R i) (kb R) (m R) (columns R)
     table-sized i l =
         record {
-          size = table-long i l;
-          kb-high = s .header .kb-high;
+          size = omega (arith, table-long i l, area-is R, ap (λ (n : ℕ). n * columns R) (rows-is R));
+          wide = omega (arith, columns-is R, rows-is R);
+          columns-high = s .header .columns-high;
           m-low = s .header .m-low;
           m-high = s .header .m-high;
         }

@@ -14,17 +14,17 @@ use Rattle.profile.specs.Record.{entry, empty}
 use Rattle.profile.specs.Staircase.{filled, filledBetween, firstColumn, nextDue, nextColumn, staircase}
 
 -- column kb is filled in row 0, in the last row and in row `middle` between, and there with 0; column kb + j holds 0 in rows j - 1 and j
-pub record Staircase (T : List ℕ) (kb m : ℕ) : Type 0 where
+pub record Staircase (T : List ℕ) (kb m columns : ℕ) : Type 0 where
   pub middle : ℕ
   pub after : 0 < middle
   pub before : suc middle < m
-  pub filled : entry T (kb + m) 0 kb ≡ empty → ⊥
-  pub outer : (i : ℕ) → suc i ≡ m → entry T (kb + m) i kb ≡ entry T (kb + m) 0 kb
-  pub inner : entry T (kb + m) middle kb ≡ 0
-  pub others : (i : ℕ) → 0 < i → suc i < m → (i ≡ middle → ⊥) → entry T (kb + m) i kb ≡ empty
-  pub upper : (j : ℕ) → suc j < m → entry T (kb + m) j (kb + suc j) ≡ 0
-  pub lower : (j : ℕ) → suc j < m → entry T (kb + m) (suc j) (kb + suc j) ≡ 0
-  pub rest : (i j : ℕ) → i < m → suc j < m → (i ≡ j → ⊥) → (i ≡ suc j → ⊥) → entry T (kb + m) i (kb + suc j) ≡ empty
+  pub filled : entry T columns 0 kb ≡ empty → ⊥
+  pub outer : (i : ℕ) → suc i ≡ m → entry T columns i kb ≡ entry T columns 0 kb
+  pub inner : entry T columns middle kb ≡ 0
+  pub others : (i : ℕ) → 0 < i → suc i < m → (i ≡ middle → ⊥) → entry T columns i kb ≡ empty
+  pub upper : (j : ℕ) → suc j < m → entry T columns j (kb + suc j) ≡ 0
+  pub lower : (j : ℕ) → suc j < m → entry T columns (suc j) (kb + suc j) ≡ 0
+  pub rest : (i j : ℕ) → i < m → suc j < m → (i ≡ j → ⊥) → (i ≡ suc j → ⊥) → entry T columns i (kb + suc j) ≡ empty
 
 -- ---- exactly one of the numbers below n
 
@@ -156,16 +156,16 @@ module _ (m j : ℕ) (C : ℕ → ℕ) where
 
 -- ---- the table
 
-module _ (T : List ℕ) (kb m : ℕ) where
+module _ (T : List ℕ) (kb m columns : ℕ) where
   abbrev pub column : ℕ → ℕ → ℕ
-  column j row = entry T (kb + m) row j
+  column j row = entry T columns row j
 
   others : (middle : ℕ) → ((k : ℕ) → k < m - 2 → (suc k ≡ middle → ⊥) → filled (column kb (suc k)) ≡ false)
       → (i : ℕ) → 0 < i → suc i < m → (i ≡ middle → ⊥) → column kb i ≡ empty
   others middle h zero l o n = absurd (omega arith)
   others middle h (suc k) l o n = unfilled-is (column kb (suc k)) (h k (omega arith) n)
 
-  pub staircase-is : staircase T kb m ≡ true → Staircase T kb m
+  pub staircase-is : staircase T kb m columns ≡ true → Staircase T kb m columns
   unfolding staircase
   staircase-is e =
       let right : ℕ → Bool = λ i. nextColumn m (suc i) (column (kb + suc i)) in
@@ -187,7 +187,7 @@ module _ (T : List ℕ) (kb m : ℕ) where
         rest = λ i j l h n p. next i j l h ∙ due-rest j i n p;
       }
 
-  module _ (s : Staircase T kb m) where
+  module _ (s : Staircase T kb m columns) where
     middle-only : Only (m - 2) (λ i. filled (column kb (suc i)))
     middle-only =
         let at : suc (s .middle - 1) ≡ s .middle = omega (arith, s .after) in
@@ -215,7 +215,7 @@ module _ (T : List ℕ) (kb m : ℕ) where
         (λ n. equal-or i (suc j) (λ q. ap (column (kb + suc j)) q ∙ s .lower j h ∙ sym (due-lower j) ∙ ap (nextDue (suc j)) (sym q))
         (λ o. s .rest i j l h n o ∙ sym (due-rest j i n o)))
 
-    pub is-staircase : staircase T kb m ≡ true
+    pub is-staircase : staircase T kb m columns ≡ true
     unfolding staircase
     is-staircase =
         let right : ℕ → Bool = λ i. nextColumn m (suc i) (column (kb + suc i)) in

@@ -1,5 +1,4 @@
 pub mod Record
 pub mod Staircase
-pub mod Plan
 pub mod Promises
 pub mod steps

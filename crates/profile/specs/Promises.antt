@@ -1,13 +1,10 @@
 -- What the public calls promise, for every record and every block length.
 use mathlib.Core.Bool.{Bool, not}
-use mathlib.Core.List.{List, [], _∷_, _++_}
+use mathlib.Core.List.{List, [], _∷_}
 use Prim.Native.Nat.{ℕ}
-use lib.Dec.{ltb}
-use Rattle.bits.specs.Numbers.{answered, whenDone}
-use Rattle.profile.specs.Record.{z, within, wellFormed}
+use Rattle.bits.specs.Numbers.{answered}
+use Rattle.profile.specs.Record.{wellFormed}
 use Rattle.profile.specs.Staircase.{staircases}
-use Rattle.profile.specs.Plan.{blockBits, kmax, blocks, sizeIndex, places}
-use Rattle.profile.specs.declared.Plan.{Plan}
 
 -- 5 "profile record not well formed", 6 "a table is no staircase"
 abbrev pub judgeConditions : List ℕ → List (ℕ × Bool)
@@ -16,31 +13,3 @@ judgeConditions R = (5, not (wellFormed R)) ∷ (6, not (staircases R)) ∷ []
 -- what `judge` answers
 unfoldable pub judged : List ℕ → ℕ
 judged R = answered (judgeConditions R)
-
--- then 7 "transport block not 1 to 2,048 octets", 9 "C over 64"
-abbrev pub planConditions : List ℕ → ℕ → List (ℕ × Bool)
-planConditions R octets = judgeConditions R ++ ((7, not (within 1 2048 octets)) ∷ (9, ltb 64 (blocks R (blockBits octets))) ∷ [])
-
-unfoldable pub planNumber : List ℕ → ℕ → ℕ
-planNumber R octets = answered (planConditions R octets)
-
--- how B bits are cut: Kmax, C, K and z, and which of the record's sizes z is
-unfoldable pub cutting : List ℕ → ℕ → Plan
-cutting R b =
-    record {
-      number = 0;
-      bits = b;
-      kmax = kmax R;
-      blocks = blocks R b;
-      places = places R b;
-      z = z R (sizeIndex R b);
-      index = sizeIndex R b;
-    }
-
--- "When it refuses, its other results are 0"
-unfoldable pub refusal : ℕ → Plan
-refusal n = record { number = n; bits = 0; kmax = 0; blocks = 0; places = 0; z = 0; index = 0 }
-
--- what `plan_block` answers
-unfoldable pub planned : List ℕ → ℕ → Plan
-planned R octets = whenDone (planNumber R octets) (cutting R (blockBits octets)) (refusal (planNumber R octets))

@@ -2,10 +2,10 @@
 use mathlib.Core.Bool.{Bool, true, _&&_, _||_}
 use mathlib.Core.List.{List}
 use Prim.Native.Nat.{ℕ, zero, suc, _+_, _*_}
-use lib.Dec.{eqb, leb, ltb}
+use lib.Dec.{eqb, ltb}
 use lib.ListN.{length, getD, take, drop}
 use Rattle.bits.specs.Bits.{numberAt}
-use Rattle.bits.specs.Ranges.{allBelow}
+use Rattle.bits.specs.Ranges.{allBelow, within}
 
 -- ---- "kb (1 to 20), m (3 to 12), t (1 to 3); then t pairs of z (1 to 81, strictly rising) and offset; then t tables"
 
@@ -24,26 +24,29 @@ z R i = numberAt R (6 + 4 * i)
 unfoldable pub offset : List ℕ → ℕ → ℕ
 offset R i = numberAt R (8 + 4 * i)
 
--- "A table is m rows of kb+m octets: 255 for empty, else a shift below its z"
+-- "A table is m rows .."
+unfoldable pub rows : List ℕ → ℕ
+rows R = m R
+
+-- ".. of kb+m octets": a column for each group of z places of a coded block
+unfoldable pub columns : List ℕ → ℕ
+columns R = kb R + rows R
+
 unfoldable pub tableSize : List ℕ → ℕ
-tableSize R = m R * (kb R + m R)
+tableSize R = rows R * columns R
 
 unfoldable pub table : List ℕ → ℕ → List ℕ
 table R i = take (tableSize R) (drop (offset R i) R)
 
--- the entry in a row and a column of a table T that has `columns` columns
+-- the entry in a row and a column of a table T of so many columns
 unfoldable pub entry : List ℕ → ℕ → ℕ → ℕ → ℕ
-entry T columns row column = getD T (row * columns + column) 0
+entry T columns' row column = getD T (row * columns' + column) 0
 
 -- what it holds where there is no shift
 abbrev pub empty : ℕ
 empty = 255
 
 -- ---- well formed, part by part
-
--- "1 to 20" and the like
-abbrev pub within : ℕ → ℕ → ℕ → Bool
-within least most n = leb least n && leb n most
 
 -- "kb (1 to 20), m (3 to 12), t (1 to 3)"
 unfoldable pub headerRight : List ℕ → Bool

@@ -4,7 +4,7 @@ use mathlib.Core.List.{List}
 use Prim.Native.Nat.{ℕ, suc, _+_, _-_}
 use lib.Dec.{eqb}
 use Rattle.bits.specs.Ranges.{sumBelow, allBelow}
-use Rattle.profile.specs.Record.{kb, m, t, table, entry, empty}
+use Rattle.profile.specs.Record.{kb, m, t, columns, table, entry, empty}
 
 unfoldable pub filled : ℕ → Bool
 filled e = not (eqb e empty)
@@ -29,12 +29,12 @@ nextDue j row = cond (eqb row (j - 1) || eqb row j) 0 empty
 unfoldable pub nextColumn : ℕ → ℕ → (ℕ → ℕ) → Bool
 nextColumn m' j col = allBelow m' (λ row. eqb (col row) (nextDue j row))
 
--- T is a table of m rows and kb + m columns
-unfoldable pub staircase : List ℕ → ℕ → ℕ → Bool
-staircase T kb' m' =
-    firstColumn m' (λ row. entry T (kb' + m') row kb')
-    && allBelow (m' - 1) (λ i. nextColumn m' (suc i) (λ row. entry T (kb' + m') row (kb' + suc i)))
+-- in the first m rows of a table T of so many columns
+unfoldable pub staircase : List ℕ → ℕ → ℕ → ℕ → Bool
+staircase T kb' m' columns' =
+    firstColumn m' (λ row. entry T columns' row kb')
+    && allBelow (m' - 1) (λ i. nextColumn m' (suc i) (λ row. entry T columns' row (kb' + suc i)))
 
 -- "in each table"
 unfoldable pub staircases : List ℕ → Bool
-staircases R = allBelow (t R) (λ i. staircase (table R i) (kb R) (m R))
+staircases R = allBelow (t R) (λ i. staircase (table R i) (kb R) (m R) (columns R))

@@ -5,29 +5,20 @@ ghost use mathlib.Core.Path.{_≡_};
 ghost use mathlib.Core.Bool.{true, _&&_};
 ghost use Prim.Native.Nat.{_+_, _*_, _≤_, _<_};
 ghost use lib.ListN.{length, getD};
-ghost use Rattle.bits.specs.Ranges.{allBelow};
-ghost use Rattle.profile.specs.Record.{t, within, rises, endsRight, shiftRight, tableRight};
+ghost use Rattle.bits.specs.Ranges.{allBelow, within};
+ghost use Rattle.profile.specs.Record.{t, rises, endsRight, shiftRight, tableRight};
 ghost use Rattle.profile.specs.steps.Shape.{frontRight, sizeRight, shapeRight};
-
-pub fn is_within(least: usize, most: usize, n: usize) -> bool
-    ensures { λ r. ⌜ r ≡ within least most n ⌝ }
-{
-    if n < least {
-        return false;
-    }
-    n <= most
-}
 
 fn ranges_right(kb: usize, m: usize, t: usize) -> bool
     ensures { λ r. ⌜ r ≡ (within 1 20 kb && within 3 12 m && within 1 3 t) ⌝ }
 {
-    if !is_within(1, 20, kb) {
+    if !bits::inner::is_within(1, 20, kb) {
         return false;
     }
-    if !is_within(3, 12, m) {
+    if !bits::inner::is_within(3, 12, m) {
         return false;
     }
-    is_within(1, 3, t)
+    bits::inner::is_within(1, 3, t)
 }
 
 fn header_right(profile: &[u8]) -> bool
@@ -63,7 +54,7 @@ fn size_right(profile: &[u8], i: usize) -> bool
     requires { ⌜ (frontRight (now profile) ≡ true) × (10 + 4 * i ≤ length (now profile)) × (i ≤ 3) ⌝ }
     ensures { λ r. ⌜ r ≡ sizeRight (now (profile .entry)) i ⌝ }
 {
-    if !is_within(1, 81, parts::z(profile, i)) {
+    if !bits::inner::is_within(1, 81, parts::z(profile, i)) {
         return false;
     }
     if !is_rising(profile, i) {

@@ -1,17 +1,11 @@
-// For the layers above, which have judged the profile once: its parts, and the plan of a block.
-use crate::Plan;
-use crate::cut;
-use crate::form;
+// For the layers above, which have judged the profile once: its parts.
 use crate::parts;
-use bits::number::BLOCK_LENGTH;
-use bits::number::TOO_MANY_BLOCKS;
 ghost use mathlib.Core.Path.{_≡_};
 ghost use Prim.Native.Nat.{_≤_, _<_};
 ghost use lib.Dec.{eqb};
 ghost use Rattle.bits.specs.Ranges.{firstBelow};
-ghost use Rattle.profile.specs.Record.{kb, m, t, z, table};
-ghost use Rattle.profile.specs.Plan.{ownBits};
-ghost use Rattle.profile.specs.Promises.{judged, planned};
+ghost use Rattle.profile.specs.Record.{kb, m, t, z, rows, columns, table};
+ghost use Rattle.profile.specs.Promises.{judged};
 
 // An entry that holds no shift: "255 for empty".
 pub const EMPTY: u8 = 255;
@@ -44,6 +38,21 @@ pub fn z(profile: &[u8], i: usize) -> usize
     parts::z(profile, i)
 }
 
+// How many rows and columns each table has.
+pub fn rows(profile: &[u8]) -> usize
+    requires { ⌜ judged (now profile) ≡ 0 ⌝ }
+    ensures { λ r. ⌜ (r ≡ rows (now (profile .entry))) × (3 ≤ r) × (r ≤ 12) ⌝ }
+{
+    parts::rows(profile)
+}
+
+pub fn columns(profile: &[u8]) -> usize
+    requires { ⌜ judged (now profile) ≡ 0 ⌝ }
+    ensures { λ r. ⌜ (r ≡ columns (now (profile .entry))) × (4 ≤ r) × (r ≤ 32) ⌝ }
+{
+    parts::columns(profile)
+}
+
 pub fn table(profile: &[u8], i: usize) -> &[u8]
     requires { ⌜ (judged (now profile) ≡ 0) × (i < t (now profile)) ⌝ }
     ensures { λ r. ⌜ now r ≡ table (now (profile .entry)) i ⌝ }
@@ -65,34 +74,4 @@ pub fn index_of(profile: &[u8], wanted: usize) -> usize
         i += 1;
     }
     t
-}
-
-// A block's own bits.
-pub fn own_bits(bits: usize, blocks: usize, r: usize) -> usize
-    requires { ⌜ (bits ≤ 16408) × (0 < blocks) × (blocks ≤ 64) ⌝ }
-    ensures { λ n. ⌜ n ≡ ownBits bits blocks r ⌝ }
-{
-    let more = cut::ceil(bits, blocks);
-    let less = bits / blocks;
-    if r < bits % blocks {
-        return more;
-    }
-    less
-}
-
-// How a block of so many octets is cut by a profile that was judged already.
-pub fn plan_accepted(profile: &[u8], octets: usize) -> Plan
-    requires { ⌜ judged (now profile) ≡ 0 ⌝ }
-    ensures { λ r. ⌜ r ≡ planned (now (profile .entry)) octets ⌝ }
-{
-    if !form::is_within(1, 2048, octets) {
-        return cut::refused(BLOCK_LENGTH);
-    }
-    let bits = 8 * octets + 24;
-    let kmax = cut::kmax(profile);
-    let blocks = cut::ceil(bits, kmax);
-    if 64 < blocks {
-        return cut::refused(TOO_MANY_BLOCKS);
-    }
-    cut::cutting(profile, bits, kmax, blocks)
 }

@@ -3,8 +3,8 @@ ghost use mathlib.Core.Path.{_≡_};
 ghost use mathlib.Core.Bool.{true};
 ghost use Prim.Native.Nat.{_+_, _*_, _≤_, _<_};
 ghost use lib.ListN.{length};
-ghost use Rattle.profile.specs.Record.{kb, m, t, z, offset, tableSize, table, offsetDue};
-ghost use Rattle.profile.specs.steps.Shape.{frontRight, shapeRight, Sized};
+ghost use Rattle.profile.specs.Record.{kb, m, t, z, offset, rows, columns, tableSize, offsetDue};
+ghost use Rattle.profile.specs.steps.Shape.{frontRight, shapeRight, TableAt};
 
 // The header's three numbers.
 pub fn kb(profile: &[u8]) -> usize
@@ -43,12 +43,26 @@ pub fn offset(profile: &[u8], i: usize) -> usize
     bits::inner::number_at(profile, 8 + 4 * i)
 }
 
-// How many octets a table has.
+// How many rows and columns a table has, and how many octets.
+pub fn rows(profile: &[u8]) -> usize
+    requires { ⌜ frontRight (now profile) ≡ true ⌝ }
+    ensures { λ r. ⌜ (r ≡ rows (now (profile .entry))) × (3 ≤ r) × (r ≤ 12) ⌝ }
+{
+    m(profile)
+}
+
+pub fn columns(profile: &[u8]) -> usize
+    requires { ⌜ frontRight (now profile) ≡ true ⌝ }
+    ensures { λ r. ⌜ (r ≡ columns (now (profile .entry))) × (4 ≤ r) × (r ≤ 32) ⌝ }
+{
+    kb(profile) + rows(profile)
+}
+
 pub fn table_size(profile: &[u8]) -> usize
     requires { ⌜ frontRight (now profile) ≡ true ⌝ }
     ensures { λ r. ⌜ (r ≡ tableSize (now (profile .entry))) × (r ≤ 384) ⌝ }
 {
-    m(profile) * (kb(profile) + m(profile))
+    rows(profile) * columns(profile)
 }
 
 // Where a table is due to start; asked past the last table, where the record is due to end.
@@ -62,7 +76,7 @@ pub fn offset_due(profile: &[u8], i: usize) -> usize
 // A table of a record whose tables can be read.
 pub fn table(profile: &[u8], i: usize) -> &[u8]
     requires { ⌜ (shapeRight (now profile) ≡ true) × (i < t (now profile)) ⌝ }
-    ensures { λ r. ⌜ (now r ≡ table (now (profile .entry)) i) × Sized (now r) (kb (now (profile .entry))) (m (now (profile .entry))) ⌝ }
+    ensures { λ r. ⌜ TableAt (now (profile .entry)) i (now r) ⌝ }
 {
     let start = offset(profile, i);
     let end = start + table_size(profile);

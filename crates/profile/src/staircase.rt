@@ -46,11 +46,11 @@ fn next_due(j: usize, row: usize) -> u8
 }
 
 // The columns after column kb, in a row.
-fn next_right(table: &[u8], kb: usize, m: usize, row: usize) -> bool
-    requires { ⌜ Sized (now table) kb m × (row < m) ⌝ }
-    ensures { λ r. ⌜ r ≡ allBelow (m - 1) (nextRight (now (table .entry)) kb m row) ⌝ }
+fn next_right(table: &[u8], kb: usize, m: usize, columns: usize, row: usize) -> bool
+    requires { ⌜ Sized (now table) kb m columns × (row < m) ⌝ }
+    ensures { λ r. ⌜ r ≡ allBelow (m - 1) (nextRight (now (table .entry)) kb columns row) ⌝ }
 {
-    let first = row * (kb + m) + kb + 1;
+    let first = row * columns + kb + 1;
     let n = m - 1;
     let mut j = 0;
     while j < n {
@@ -62,25 +62,25 @@ fn next_right(table: &[u8], kb: usize, m: usize, row: usize) -> bool
     true
 }
 
-fn row_right(table: &[u8], kb: usize, m: usize, middle: usize, row: usize) -> bool
-    requires { ⌜ Sized (now table) kb m × (row < m) ⌝ }
-    ensures { λ r. ⌜ r ≡ rowRight (now (table .entry)) kb m middle row ⌝ }
+fn row_right(table: &[u8], kb: usize, m: usize, columns: usize, middle: usize, row: usize) -> bool
+    requires { ⌜ Sized (now table) kb m columns × (row < m) ⌝ }
+    ensures { λ r. ⌜ r ≡ rowRight (now (table .entry)) kb m columns middle row ⌝ }
 {
-    let at = row * (kb + m) + kb;
+    let at = row * columns + kb;
     let outer = table[kb];
     if table[at] != first_due(m, outer, middle, row) {
         return false;
     }
-    next_right(table, kb, m, row)
+    next_right(table, kb, m, columns, row)
 }
 
-fn rows_right(table: &[u8], kb: usize, m: usize, middle: usize) -> bool
-    requires { ⌜ Sized (now table) kb m ⌝ }
-    ensures { λ r. ⌜ r ≡ allBelow m (rowRight (now (table .entry)) kb m middle) ⌝ }
+fn rows_right(table: &[u8], kb: usize, m: usize, columns: usize, middle: usize) -> bool
+    requires { ⌜ Sized (now table) kb m columns ⌝ }
+    ensures { λ r. ⌜ r ≡ allBelow m (rowRight (now (table .entry)) kb m columns middle) ⌝ }
 {
     let mut row = 0;
     while row < m {
-        if !row_right(table, kb, m, middle, row) {
+        if !row_right(table, kb, m, columns, middle, row) {
             return false;
         }
         row += 1;
@@ -88,9 +88,9 @@ fn rows_right(table: &[u8], kb: usize, m: usize, middle: usize) -> bool
     true
 }
 
-fn stairs_at(table: &[u8], kb: usize, m: usize, middle: usize) -> bool
-    requires { ⌜ Sized (now table) kb m × (middle < m) ⌝ }
-    ensures { λ r. ⌜ r ≡ stairsAt (now (table .entry)) kb m middle ⌝ }
+fn stairs_at(table: &[u8], kb: usize, m: usize, columns: usize, middle: usize) -> bool
+    requires { ⌜ Sized (now table) kb m columns × (middle < m) ⌝ }
+    ensures { λ r. ⌜ r ≡ stairsAt (now (table .entry)) kb m columns middle ⌝ }
 {
     if middle < 1 {
         return false;
@@ -98,16 +98,16 @@ fn stairs_at(table: &[u8], kb: usize, m: usize, middle: usize) -> bool
     if m <= middle + 1 {
         return false;
     }
-    rows_right(table, kb, m, middle)
+    rows_right(table, kb, m, columns, middle)
 }
 
-fn some_stairs(table: &[u8], kb: usize, m: usize) -> bool
-    requires { ⌜ Sized (now table) kb m ⌝ }
-    ensures { λ r. ⌜ r ≡ anyBelow m (stairsAt (now (table .entry)) kb m) ⌝ }
+fn some_stairs(table: &[u8], kb: usize, m: usize, columns: usize) -> bool
+    requires { ⌜ Sized (now table) kb m columns ⌝ }
+    ensures { λ r. ⌜ r ≡ anyBelow m (stairsAt (now (table .entry)) kb m columns) ⌝ }
 {
     let mut middle = 0;
     while middle < m {
-        if stairs_at(table, kb, m, middle) {
+        if stairs_at(table, kb, m, columns, middle) {
             return true;
         }
         middle += 1;
@@ -115,14 +115,14 @@ fn some_stairs(table: &[u8], kb: usize, m: usize) -> bool
     false
 }
 
-fn is_staircase(table: &[u8], kb: usize, m: usize) -> bool
-    requires { ⌜ Sized (now table) kb m ⌝ }
-    ensures { λ r. ⌜ r ≡ staircase (now (table .entry)) kb m ⌝ }
+fn is_staircase(table: &[u8], kb: usize, m: usize, columns: usize) -> bool
+    requires { ⌜ Sized (now table) kb m columns ⌝ }
+    ensures { λ r. ⌜ r ≡ staircase (now (table .entry)) kb m columns ⌝ }
 {
     if table[kb] == EMPTY {
         return false;
     }
-    some_stairs(table, kb, m)
+    some_stairs(table, kb, m, columns)
 }
 
 // Every table of a record whose tables can be read.
@@ -132,10 +132,11 @@ pub fn staircases(profile: &[u8]) -> bool
 {
     let kb = parts::kb(profile);
     let m = parts::m(profile);
+    let columns = parts::columns(profile);
     let t = parts::t(profile);
     let mut i = 0;
     while i < t {
-        if !is_staircase(parts::table(profile, i), kb, m) {
+        if !is_staircase(parts::table(profile, i), kb, m, columns) {
             return false;
         }
         i += 1;

@@ -1,5 +1,5 @@
 // Answers, and how they are put into the output.
-use profile::Plan;
+use cutting::Plan;
 use text::faults::Fault;
 use text::numbers;
 use text::octets;
@@ -84,7 +84,7 @@ fn error(why: Fault, out: &mut [u8], at: usize) -> usize
     requires { ⌜ at + 128 ≤ length (now out) ⌝ }
     ensures { λ r. ⌜ r ≤ length (now (out .entry)) ⌝ }
 {
-    let word = words::word(b"request words number long bits hex output", place(why));
+    let word = words::nth(b"request words number long bits hex output", place(why));
     let next = octets::put(b"error ", out, at);
     let end = octets::put(word, out, next);
     octets::put_one(b'\n', out, end)

@@ -2,23 +2,26 @@
 use crate::answers::Answer;
 use crate::output;
 use bits::count::CodedBits;
-use text::forms::number;
-use text::forms::short;
+use bits::count::Terms;
+use text::forms::WORDS;
 use text::shown::Shown;
+use text::values::short_of;
 
 pub fn answer<'a>(
-    request: &[u8],
+    numbers: &[usize; WORDS],
     private: &'a [u8],
     public: &'a [u8],
     block: &[u8],
     lent: &mut [u8],
 ) -> Answer {
     output::fill(lent);
-    let tenant = short(request, 3);
-    let profile = short(request, 4);
-    let nl = number(request, 6);
-    let qm = number(request, 7);
-    let g = CodedBits(number(request, 8));
-    let written = shelf::hosted_send(private, public, tenant, profile, block, nl, qm, g, lent);
+    let tenant = short_of(numbers[3]);
+    let profile = short_of(numbers[4]);
+    let terms = Terms {
+        nl: numbers[6],
+        qm: numbers[7],
+    };
+    let g = CodedBits(numbers[8]);
+    let written = shelf::hosted_send(private, public, tenant, profile, block, terms, g, lent);
     output::answer(Shown::Bits, written, lent)
 }

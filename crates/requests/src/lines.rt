@@ -2,6 +2,7 @@
 use crate::answers::Answer;
 use crate::names;
 use text::faults::Fault;
+use text::octets::find;
 ghost use Prim.Native.Nat.{_≤_};
 ghost use lib.ListN.{length};
 
@@ -37,14 +38,16 @@ fn is_comment(line: &[u8]) -> bool {
 fn before_comment(line: &[u8]) -> usize
     ensures { λ r. ⌜ r ≤ length (now (line .entry)) ⌝ }
 {
-    let mut i = 1;
-    while i < line.len() {
-        if line[i] == b'#' {
-            if line[i - 1] == b' ' {
-                return i - 1;
-            }
+    let mut at = 1;
+    while at < line.len() {
+        let i = find(line, at, b'#');
+        if i == line.len() {
+            return i;
         }
-        i += 1;
+        if line[i - 1] == b' ' {
+            return i - 1;
+        }
+        at = i + 1;
     }
     line.len()
 }

@@ -2,13 +2,14 @@
 use crate::answers::Answer;
 use shelf::inner::Found;
 use text::faults::Fault;
-use text::forms::short;
+use text::forms::WORDS;
 use text::octets::same;
+use text::values::short_of;
 
 // The number and the stretch come from calls of their own, and where the stretch lies from a third: they are held to each other here.
-pub fn answer<'a>(request: &[u8], private: &'a [u8], public: &'a [u8]) -> Answer {
-    let tenant = short(request, 3);
-    let profile = short(request, 4);
+pub fn answer<'a>(numbers: &[usize; WORDS], private: &'a [u8], public: &'a [u8]) -> Answer {
+    let tenant = short_of(numbers[3]);
+    let profile = short_of(numbers[4]);
     let number = shelf::lookup_number(private, public, tenant, profile);
     let found = shelf::inner::look(private, public, tenant, profile);
     let record = shelf::lookup(private, public, tenant, profile);

@@ -14,15 +14,18 @@ use crate::recv;
 use crate::send;
 use text::faults::Fault;
 use text::forms;
-use text::octets::same;
+use text::forms::Given;
+use text::forms::WORDS;
 use text::words;
+ghost use lib.ListN.{length};
+ghost use Rattle.text.specs.Words.{Held};
 
+// The forms stand one to a line, and `of_kind` has a module for each, by its place in the list.
 // `records` and `bits` take the octets that the words of a request hold, a record, packed octets or a
 // private shelf in the first half of `records` and a public shelf in the second; `lent` is the output of
 // the call that it asks for.
 pub fn answer(request: &[u8], records: &mut [u8], bits: &mut [u8], lent: &mut [u8]) -> Answer {
-    let form = forms::named(
-        words::word(request, 0),
+    of_list(
         b"crc WIDTH BITS
 crcoct WIDTH PACKED
 profile RECORD
@@ -36,32 +39,65 @@ lookup PRIVATE PUBLIC TENANT PROFILE
 hsend PRIVATE PUBLIC TENANT PROFILE BLOCK NL QM G OUTLEN
 hrecv PRIVATE PUBLIC TENANT PROFILE A NL QM BITS OUTLEN
 ",
-    );
-    if form.len() == 0 {
+        request,
+        records,
+        bits,
+        lent,
+    )
+}
+
+fn of_list(
+    list: &[u8],
+    request: &[u8],
+    records: &mut [u8],
+    bits: &mut [u8],
+    lent: &mut [u8],
+) -> Answer {
+    let found = words::entry(list, b'\n', b' ', words::before(request, b' '));
+    let from = found.from;
+    let end = found.end;
+    if from == end {
         return Answer::Error(Fault::Request);
     }
-    of_form(form, request, records, bits, lent)
+    of_form(found.place, &list[from..end], request, records, bits, lent)
 }
 
 fn of_form(
+    kind: usize,
     form: &[u8],
     request: &[u8],
     records: &mut [u8],
     bits: &mut [u8],
     lent: &mut [u8],
 ) -> Answer {
-    let given = forms::read(form, request, records, bits, lent.len());
+    let mut numbers = [0usize; WORDS];
+    let given = forms::read(form, request, &mut numbers, records, bits, lent.len());
     if given.bad {
         let why = given.why;
         return Answer::Error(why);
     }
+    of_given(kind, &numbers, given, records, bits, lent)
+}
+
+// Lends each call what the words filled and no more.
+fn of_given(
+    kind: usize,
+    numbers: &[usize; WORDS],
+    given: Given,
+    records: &[u8],
+    bits: &[u8],
+    lent: &mut [u8],
+) -> Answer
+    requires { ⌜ Held given (now records) (now bits) (length (now lent)) ⌝ }
+{
     let half = records.len() / 2;
     let r = given.record;
     let p = given.public;
     let b = given.bits;
     let n = given.lent;
-    of_words(
-        request,
+    of_kind(
+        kind,
+        numbers,
         &records[0..r],
         &records[half..half + p],
         &bits[0..b],
@@ -70,61 +106,27 @@ fn of_form(
 }
 
 // Where the form has no PUBLIC, that shelf is empty and `record` is RECORD or PACKED; else `record` is PRIVATE.
-fn of_words<'a>(
-    request: &[u8],
+fn of_kind<'a>(
+    kind: usize,
+    numbers: &[usize; WORDS],
     record: &'a [u8],
     public: &'a [u8],
     bits: &[u8],
     lent: &mut [u8],
 ) -> Answer {
-    let name = words::word(request, 0);
-    if same(name, b"crc") {
-        return crc::answer(request, bits);
+    match kind {
+        0 => crc::answer(numbers, bits),
+        1 => crcoct::answer(numbers, record),
+        2 => judge::answer(record),
+        3 => plan::answer(numbers, record),
+        4 => encode::answer(numbers, record, bits, lent),
+        5 => check::answer(numbers, record, bits),
+        6 => rate::answer(numbers, bits, lent),
+        7 => send::answer(numbers, record, bits, lent),
+        8 => recv::answer(numbers, record, bits, lent),
+        9 => lookup::answer(numbers, record, public),
+        10 => hsend::answer(numbers, record, public, bits, lent),
+        11 => hrecv::answer(numbers, record, public, bits, lent),
+        _ => Answer::Error(Fault::Request),
     }
-    if same(name, b"crcoct") {
-        return crcoct::answer(request, record);
-    }
-    if same(name, b"profile") {
-        return judge::answer(record);
-    }
-    if same(name, b"plan") {
-        return plan::answer(request, record);
-    }
-    if same(name, b"check") {
-        return check::answer(request, record, bits);
-    }
-    if same(name, b"lookup") {
-        return lookup::answer(request, record, public);
-    }
-    of_lent(request, record, public, bits, lent)
-}
-
-// The requests whose form has an OUTLEN.
-fn of_lent<'a>(
-    request: &[u8],
-    record: &'a [u8],
-    public: &'a [u8],
-    bits: &[u8],
-    lent: &mut [u8],
-) -> Answer {
-    let name = words::word(request, 0);
-    if same(name, b"encode") {
-        return encode::answer(request, record, bits, lent);
-    }
-    if same(name, b"rate") {
-        return rate::answer(request, bits, lent);
-    }
-    if same(name, b"send") {
-        return send::answer(request, record, bits, lent);
-    }
-    if same(name, b"recv") {
-        return recv::answer(request, record, bits, lent);
-    }
-    if same(name, b"hsend") {
-        return hsend::answer(request, record, public, bits, lent);
-    }
-    if same(name, b"hrecv") {
-        return hrecv::answer(request, record, public, bits, lent);
-    }
-    Answer::Error(Fault::Request)
 }

@@ -1,7 +1,7 @@
 // The request `plan RECORD OCTETS`: how a block of so many octets is cut into code blocks.
 use crate::answers::Answer;
-use text::forms::number;
+use text::forms::WORDS;
 
-pub fn answer(request: &[u8], record: &[u8]) -> Answer {
-    Answer::Plan(profile::plan_block(record, number(request, 2)))
+pub fn answer(numbers: &[usize; WORDS], record: &[u8]) -> Answer {
+    Answer::Plan(cutting::plan_block(record, numbers[2]))
 }

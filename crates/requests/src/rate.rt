@@ -2,11 +2,11 @@
 use crate::answers::Answer;
 use crate::output;
 use bits::count::CodedBits;
-use text::forms::number;
+use text::forms::WORDS;
 use text::shown::Shown;
 
-pub fn answer(request: &[u8], places: &[u8], lent: &mut [u8]) -> Answer {
+pub fn answer(numbers: &[usize; WORDS], places: &[u8], lent: &mut [u8]) -> Answer {
     output::fill(lent);
-    let written = coding::rate_match(places, CodedBits(number(request, 1)), lent);
+    let written = matching::rate_match(places, CodedBits(numbers[1]), lent);
     output::answer(Shown::Bits, written, lent)
 }

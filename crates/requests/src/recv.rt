@@ -1,14 +1,17 @@
 // The request `recv RECORD A NL QM BITS OUTLEN`: the block that was sent as these bits.
 use crate::answers::Answer;
 use crate::output;
-use text::forms::number;
+use bits::count::Terms;
+use text::forms::WORDS;
 use text::shown::Shown;
 
-pub fn answer(request: &[u8], record: &[u8], bits: &[u8], lent: &mut [u8]) -> Answer {
+pub fn answer(numbers: &[usize; WORDS], record: &[u8], bits: &[u8], lent: &mut [u8]) -> Answer {
     output::fill(lent);
-    let a = number(request, 2);
-    let nl = number(request, 3);
-    let qm = number(request, 4);
-    let written = coding::receive(record, a, nl, qm, bits, lent);
+    let a = numbers[2];
+    let terms = Terms {
+        nl: numbers[3],
+        qm: numbers[4],
+    };
+    let written = coding::receive(record, a, terms, bits, lent);
     output::answer(Shown::Octets, written, lent)
 }

@@ -2,14 +2,17 @@
 use crate::answers::Answer;
 use crate::output;
 use bits::count::CodedBits;
-use text::forms::number;
+use bits::count::Terms;
+use text::forms::WORDS;
 use text::shown::Shown;
 
-pub fn answer(request: &[u8], record: &[u8], block: &[u8], lent: &mut [u8]) -> Answer {
+pub fn answer(numbers: &[usize; WORDS], record: &[u8], block: &[u8], lent: &mut [u8]) -> Answer {
     output::fill(lent);
-    let nl = number(request, 3);
-    let qm = number(request, 4);
-    let g = CodedBits(number(request, 5));
-    let written = coding::send(record, block, nl, qm, g, lent);
+    let terms = Terms {
+        nl: numbers[3],
+        qm: numbers[4],
+    };
+    let g = CodedBits(numbers[5]);
+    let written = coding::send(record, block, terms, g, lent);
     output::answer(Shown::Bits, written, lent)
 }

@@ -1,5 +1,6 @@
 // Sends octet 01 by the toy profile of document 01 and prints the 128 radio bits as packed octets in one line.
 use bits::count::CodedBits;
+use bits::count::Terms;
 use bits::number::DONE;
 use libc::STDOUT_FILENO;
 ghost use Prim.Native.Nat.{_<_};
@@ -42,7 +43,13 @@ fn main() {
         b"\x00\x01\x00\x03\x00\x01\x00\x02\x00\x0a\x00\x01\x00\xff\x01\x00\x00\x00\xff\x01\xff\x00";
     let block = b"\x01";
     let mut out = [0u8; 128];
-    let sent = coding::send(profile, block, 1, 2, CodedBits(128), &mut out);
+    let sent = coding::send(
+        profile,
+        block,
+        Terms { nl: 1, qm: 2 },
+        CodedBits(128),
+        &mut out,
+    );
     if sent.number != DONE {
         print_refused(sent.number);
         return;

@@ -4,6 +4,7 @@ use mathlib.Core.List.{List}
 use Prim.Native.Nat.{ℕ}
 use denote.Ref.{RefT, now, ptr}
 use Rattle.bits.specs.declared.number.Written.{Written}
+use Rattle.bits.specs.declared.count.Terms.{Terms}
 use Rattle.bits.proofs.Ranges.{equal-or}
 use Rattle.coding.proofs.Agreement.{send-agree, receive-agree}
 use Rattle.shelf.specs.Lookup.{lookupNumber, lookupRecord}
@@ -26,10 +27,10 @@ hosted-agree {private} {public} {t} {p} agree a b =
     (λ z. agree (a .found z) (b .found z))
     (λ n. (a .refused n .0 ∙ sym (b .refused n .0), a .refused n .1 ∙ sym (b .refused n .1)))
 
-pub hosted-send-agree : {private public : List ℕ} {t p : ℕ} {block : List ℕ} {nl qm g : ℕ} {out : List ℕ} {r r' : Written} {o o' : List ℕ}
-    → HostedSent private public t p block nl qm g out r o → HostedSent private public t p block nl qm g out r' o' → (r ≡ r') × (o ≡ o')
+pub hosted-send-agree : {private public : List ℕ} {t p : ℕ} {block : List ℕ} {terms : Terms} {g : ℕ} {out : List ℕ} {r r' : Written} {o o' : List ℕ}
+    → HostedSent private public t p block terms g out r o → HostedSent private public t p block terms g out r' o' → (r ≡ r') × (o ≡ o')
 hosted-send-agree a b = hosted-agree (λ s s'. send-agree s s') a b
 
-pub hosted-receive-agree : {private public : List ℕ} {t p a nl qm : ℕ} {bits out : List ℕ} {r r' : Written} {o o' : List ℕ}
-    → HostedReceived private public t p a nl qm bits out r o → HostedReceived private public t p a nl qm bits out r' o' → (r ≡ r') × (o ≡ o')
+pub hosted-receive-agree : {private public : List ℕ} {t p a : ℕ} {terms : Terms} {bits out : List ℕ} {r r' : Written} {o o' : List ℕ}
+    → HostedReceived private public t p a terms bits out r o → HostedReceived private public t p a terms bits out r' o' → (r ≡ r') × (o ≡ o')
 hosted-receive-agree a b = hosted-agree (λ h h'. receive-agree h h') a b

@@ -4,6 +4,7 @@ use mathlib.Core.List.{List}
 use Prim.Native.Nat.{ℕ}
 use denote.Ref.{RefT, now, ptr}
 use Rattle.bits.specs.declared.number.Written.{Written}
+use Rattle.bits.specs.declared.count.Terms.{Terms}
 use Rattle.coding.specs.Promises.{Sent, Received}
 use Rattle.shelf.specs.Lookup.{lookupNumber, lookupRecord, lookupPlace}
 
@@ -17,8 +18,8 @@ pub record Hosted (private public : List ℕ) (t p : ℕ) (promised : List ℕ �
   pub refused : (lookupNumber private public t p ≡ 0 → ⊥) → (r ≡ record { number = lookupNumber private public t p; count = 0 }) × (out' ≡ out)
   pub found : lookupNumber private public t p ≡ 0 → promised (lookupRecord private public t p)
 
-abbrev pub HostedSent : List ℕ → List ℕ → ℕ → ℕ → List ℕ → ℕ → ℕ → ℕ → List ℕ → Written → List ℕ → Type 0
-HostedSent private public t p block nl qm g out r out' = Hosted private public t p (λ R. Sent R block nl qm g out r out') out r out'
+abbrev pub HostedSent : List ℕ → List ℕ → ℕ → ℕ → List ℕ → Terms → ℕ → List ℕ → Written → List ℕ → Type 0
+HostedSent private public t p block terms g out r out' = Hosted private public t p (λ R. Sent R block terms g out r out') out r out'
 
-abbrev pub HostedReceived : List ℕ → List ℕ → ℕ → ℕ → ℕ → ℕ → ℕ → List ℕ → List ℕ → Written → List ℕ → Type 0
-HostedReceived private public t p a nl qm bits out r out' = Hosted private public t p (λ R. Received R a nl qm bits out r out') out r out'
+abbrev pub HostedReceived : List ℕ → List ℕ → ℕ → ℕ → ℕ → Terms → List ℕ → List ℕ → Written → List ℕ → Type 0
+HostedReceived private public t p a terms bits out r out' = Hosted private public t p (λ R. Received R a terms bits out r out') out r out'

@@ -7,6 +7,7 @@ pub mod inner;
 use crate::inner::look;
 use crate::inner::stretch;
 use bits::count::CodedBits;
+use bits::count::Terms;
 use bits::number::DONE;
 use bits::number::Written;
 ghost use mathlib.Core.Path.{_≡_};
@@ -36,19 +37,18 @@ pub fn hosted_send<'a>(
     tenant: u16,
     profile: u16,
     block: &[u8],
-    nl: usize,
-    qm: usize,
+    terms: Terms,
     g: CodedBits,
     out: &mut [u8],
 ) -> Written
-    ensures { λ r. ⌜ HostedSent (now (private .entry)) (now (public .entry)) tenant profile (now (block .entry)) nl qm (g .0) (now (out .entry)) r (now (out .exit)) ⌝ }
+    ensures { λ r. ⌜ HostedSent (now (private .entry)) (now (public .entry)) tenant profile (now (block .entry)) terms (g .0) (now (out .entry)) r (now (out .exit)) ⌝ }
 {
     let found = look(private, public, tenant, profile);
     let number = found.number;
     if number != DONE {
         return Written { number, count: 0 };
     }
-    coding::send(stretch(private, public, found), block, nl, qm, g, out)
+    coding::send(stretch(private, public, found), block, terms, g, out)
 }
 
 // Receives radio bits with the profile that a tenant is given, the same way.
@@ -58,17 +58,16 @@ pub fn hosted_receive<'a>(
     tenant: u16,
     profile: u16,
     a: usize,
-    nl: usize,
-    qm: usize,
+    terms: Terms,
     bits: &[u8],
     out: &mut [u8],
 ) -> Written
-    ensures { λ r. ⌜ HostedReceived (now (private .entry)) (now (public .entry)) tenant profile a nl qm (now (bits .entry)) (now (out .entry)) r (now (out .exit)) ⌝ }
+    ensures { λ r. ⌜ HostedReceived (now (private .entry)) (now (public .entry)) tenant profile a terms (now (bits .entry)) (now (out .entry)) r (now (out .exit)) ⌝ }
 {
     let found = look(private, public, tenant, profile);
     let number = found.number;
     if number != DONE {
         return Written { number, count: 0 };
     }
-    coding::receive(stretch(private, public, found), a, nl, qm, bits, out)
+    coding::receive(stretch(private, public, found), a, terms, bits, out)
 }

@@ -1,13 +1,19 @@
 // Forms of requests: a form is a request with a name in the place of each word, which says what the
-// word holds.
+// word holds, and with the optional words and their defaults behind them.
 use crate::faults::Fault;
 use crate::octets::find;
-use crate::octets::same;
+use crate::octets::least;
+use crate::options;
 use crate::values;
 use crate::values::Parsed;
 use crate::words;
+ghost use Prim.Native.Nat.{_-_, _/_, _≤_};
 ghost use mathlib.Core.Path.{_≡_};
+ghost use lib.ListN.{length};
 ghost use Rattle.text.specs.Words.{Held, valueOf};
+
+// The most words that a form has, the optional ones and the request's name among them.
+pub const WORDS: usize = 16;
 
 // What the words of a request gave.
 pub struct Given {
@@ -19,6 +25,8 @@ pub struct Given {
     pub bits: usize,
     // Octets that OUTLEN lends.
     pub lent: usize,
+    // What the last word gave.
+    pub value: usize,
     // Whether the words do not keep to the form.
     pub bad: bool,
     // Why, where they do not.
@@ -26,8 +34,7 @@ pub struct Given {
 }
 
 impl Given {
-    // The words are counted before any is looked at.
-    fn start(form: &[u8], request: &[u8]) -> Self
+    fn nothing(bad: bool) -> Self
         ensures { λ r. ⌜ (r .record ≡ 0) × (r .public ≡ 0) × (r .bits ≡ 0) × (r .lent ≡ 0) ⌝ }
     {
         Self {
@@ -35,7 +42,8 @@ impl Given {
             public: 0,
             bits: 0,
             lent: 0,
-            bad: words::count(form) != words::count(request),
+            value: 0,
+            bad,
             why: Fault::Words,
         }
     }
@@ -43,46 +51,54 @@ impl Given {
     fn with_record(self, word: Parsed) -> Self
         ensures { λ r. ⌜ (r .record ≡ valueOf word) × (r .public ≡ self .public) × (r .bits ≡ self .bits) × (r .lent ≡ self .lent) ⌝ }
     {
-        let mut given = self.with_number(word);
-        given.record = values::value_of(word);
+        let mut given = self.with(word);
+        given.record = given.value;
         given
     }
 
     fn with_public(self, word: Parsed) -> Self
         ensures { λ r. ⌜ (r .record ≡ self .record) × (r .public ≡ valueOf word) × (r .bits ≡ self .bits) × (r .lent ≡ self .lent) ⌝ }
     {
-        let mut given = self.with_number(word);
-        given.public = values::value_of(word);
+        let mut given = self.with(word);
+        given.public = given.value;
         given
     }
 
     fn with_bits(self, word: Parsed) -> Self
         ensures { λ r. ⌜ (r .record ≡ self .record) × (r .public ≡ self .public) × (r .bits ≡ valueOf word) × (r .lent ≡ self .lent) ⌝ }
     {
-        let mut given = self.with_number(word);
-        given.bits = values::value_of(word);
+        let mut given = self.with(word);
+        given.bits = given.value;
         given
     }
 
     fn with_lent(self, word: Parsed) -> Self
         ensures { λ r. ⌜ (r .record ≡ self .record) × (r .public ≡ self .public) × (r .bits ≡ self .bits) × (r .lent ≡ valueOf word) ⌝ }
     {
-        let mut given = self.with_number(word);
-        given.lent = values::value_of(word);
+        let mut given = self.with(word);
+        given.lent = given.value;
         given
     }
 
-    // Only the fault of a number is kept here; the number is read again where it is asked for.
-    fn with_number(self, word: Parsed) -> Self
-        ensures { λ r. ⌜ (r .record ≡ self .record) × (r .public ≡ self .public) × (r .bits ≡ self .bits) × (r .lent ≡ self .lent) ⌝ }
+    fn with(self, word: Parsed) -> Self
+        ensures { λ r. ⌜ (r .value ≡ valueOf word) × (r .record ≡ self .record) × (r .public ≡ self .public) × (r .bits ≡ self .bits) × (r .lent ≡ self .lent) ⌝ }
     {
         match word {
-            Parsed::Value(_) => self,
+            Parsed::Value(value) => Self {
+                record: self.record,
+                public: self.public,
+                bits: self.bits,
+                lent: self.lent,
+                value,
+                bad: false,
+                why: Fault::Words,
+            },
             Parsed::Bad(why) => Self {
                 record: self.record,
                 public: self.public,
                 bits: self.bits,
                 lent: self.lent,
+                value: 0,
                 bad: true,
                 why,
             },
@@ -90,39 +106,78 @@ impl Given {
     }
 }
 
-// The form whose first word is the name, or an empty one where there is none. The forms stand one to
-// a line.
-pub fn named<'a>(name: &'a [u8], forms: &'a [u8]) -> &'a [u8] {
-    let mut at = 0;
-    while at < forms.len() {
-        let end = find(forms, at, b'\n');
-        if same(words::word(&forms[at..end], 0), name) {
-            return &forms[at..end];
-        }
-        at = end + 1;
-    }
-    &forms[0..0]
-}
-
-// Reads the words of a request from left to right, up to the first that does not keep to the form.
-pub fn read(form: &[u8], request: &[u8], records: &mut [u8], bits: &mut [u8], room: usize) -> Given
+// Reads the words of a request by its form. `numbers` takes what each holds, at the place that it has
+// in the form: a number or, of octets, how many they are.
+pub fn read(
+    form: &[u8],
+    request: &[u8],
+    numbers: &mut [usize],
+    records: &mut [u8],
+    bits: &mut [u8],
+    room: usize,
+) -> Given
     ensures { λ r. ⌜ Held r (now (records .entry)) (now (bits .entry)) room ⌝ }
 {
-    let n = words::count(form);
-    let mut given = Given::start(form, request);
+    let n = options::start(form);
+    let m = options::start(request);
+    if !is_counted(form, n, request, m) {
+        return Given::nothing(true);
+    }
+    let given = read_words(&form[0..n], &request[0..m], numbers, records, bits, room);
+    if given.bad {
+        return given;
+    }
+    given.with(options::read(form, n, request, m, numbers))
+}
+
+// Whether the optional words, behind n and m, are the form's, and the others as many as the form's.
+fn is_counted(form: &[u8], n: usize, request: &[u8], m: usize) -> bool
+    requires { ⌜ (n ≤ length (now form)) × (m ≤ length (now request)) ⌝ }
+{
+    if words::count(&form[0..n]) != words::count(&request[0..m]) {
+        return false;
+    }
+    options::are_known(words::from(form, n), words::from(request, m))
+}
+
+// Goes over the form and the line together, up to the first word that does not keep to the form. There
+// are as many words on the line.
+fn read_words(
+    form: &[u8],
+    line: &[u8],
+    numbers: &mut [usize],
+    records: &mut [u8],
+    bits: &mut [u8],
+    room: usize,
+) -> Given
+    ensures { λ r. ⌜ Held r (now (records .entry)) (now (bits .entry)) room ⌝ }
+{
+    let mut given = Given::nothing(false);
     let mut k = 1;
-    while k < n {
+    let mut of_form = find(form, 0, b' ');
+    let mut at = find(line, 0, b' ');
+    while of_form < form.len() {
+        let name = of_form + 1;
+        let word = least(at + 1, line.len());
+        of_form = find(form, name, b' ');
+        at = find(line, word, b' ');
+        given = read_word(
+            &form[name..of_form],
+            &line[word..at],
+            records,
+            bits,
+            room,
+            given,
+        );
         if given.bad {
             return given;
         }
-        let name = words::word(form, k);
-        given = read_word(name, words::word(request, k), records, bits, room, given);
-        k += 1;
+        k = values::keep(given.value, numbers, k);
     }
     given
 }
 
-// A word with any other name is a number.
+// The names of words that hold octets; each other name is that of a number.
 fn read_word(
     name: &[u8],
     word: &[u8],
@@ -134,59 +189,40 @@ fn read_word(
     requires { ⌜ Held given (now records) (now bits) room ⌝ }
     ensures { λ r. ⌜ Held r (now (records .entry)) (now (bits .entry)) room ⌝ }
 {
+    let names = b"RECORD PACKED PRIVATE PUBLIC BLOCK BITS PLACES";
+    let place = words::entry(names, b' ', b' ', name).place;
+    match place {
+        0..=2 => given.with_record(first_half(word, records)),
+        3 => given.with_public(second_half(word, records)),
+        4 => given.with_bits(values::block(word, bits)),
+        5..=6 => given.with_bits(values::bits(word, bits)),
+        _ => read_number(name, word, room, given),
+    }
+}
+
+fn first_half(word: &[u8], records: &mut [u8]) -> Parsed
+    ensures { λ r. ⌜ valueOf r ≤ length (now (records .entry)) / 2 ⌝ }
+{
     let half = records.len() / 2;
-    if is_first(name) {
-        return given.with_record(values::octets(word, &mut records[0..half]));
-    }
-    if same(name, b"PUBLIC") {
-        return given.with_public(values::octets(word, &mut records[half..]));
-    }
-    if same(name, b"OUTLEN") {
-        return given.with_lent(values::outlen(word, room));
-    }
-    if same(name, b"BLOCK") {
-        return given.with_bits(values::block(word, bits));
-    }
-    if is_bits(name) {
-        return given.with_bits(values::bits(word, bits));
-    }
-    if is_short(name) {
-        return given.with_number(values::short(word));
-    }
-    given.with_number(values::number(word))
+    values::octets(word, &mut records[0..half])
 }
 
-// A request has one of these at most.
-fn is_first(name: &[u8]) -> bool {
-    if same(name, b"RECORD") {
-        return true;
-    }
-    if same(name, b"PACKED") {
-        return true;
-    }
-    same(name, b"PRIVATE")
+fn second_half(word: &[u8], records: &mut [u8]) -> Parsed
+    ensures { λ r. ⌜ valueOf r ≤ length (now (records .entry)) - length (now (records .entry)) / 2 ⌝ }
+{
+    let half = records.len() / 2;
+    values::octets(word, &mut records[half..])
 }
 
-fn is_short(name: &[u8]) -> bool {
-    if same(name, b"TENANT") {
-        return true;
+// The names of numbers that have a range; each other number has 64 bits.
+fn read_number(name: &[u8], word: &[u8], room: usize, given: Given) -> Given
+    requires { ⌜ given .lent ≤ room ⌝ }
+    ensures { λ r. ⌜ (r .record ≡ given .record) × (r .public ≡ given .public) × (r .bits ≡ given .bits) × (r .lent ≤ room) ⌝ }
+{
+    let place = words::entry(b"OUTLEN TENANT PROFILE", b' ', b' ', name).place;
+    match place {
+        0 => given.with_lent(values::outlen(word, room)),
+        1..=2 => given.with(values::short(word)),
+        _ => given.with(values::number(word)),
     }
-    same(name, b"PROFILE")
-}
-
-fn is_bits(name: &[u8]) -> bool {
-    if same(name, b"BITS") {
-        return true;
-    }
-    same(name, b"PLACES")
-}
-
-// The number that word k of a request holds, once the request has been read.
-pub fn number(request: &[u8], k: usize) -> usize {
-    values::value_of(values::number(words::word(request, k)))
-}
-
-// The same for a number of two octets.
-pub fn short(request: &[u8], k: usize) -> u16 {
-    values::short_of(number(request, k))
 }

@@ -3,6 +3,7 @@ pub mod faults;
 pub mod forms;
 pub mod numbers;
 pub mod octets;
+pub mod options;
 pub mod shown;
 pub mod values;
 pub mod words;

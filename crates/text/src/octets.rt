@@ -22,7 +22,7 @@ pub fn find(s: &[u8], from: usize, octet: u8) -> usize
     requires { ⌜ from ≤ length (now s) ⌝ }
     ensures { λ r. ⌜ (from ≤ r) × (r ≤ length (now (s .entry))) ⌝ }
 {
-    let mut i = from;
+    let mut i = pass(s, from, octet);
     while i < s.len() {
         if s[i] == octet {
             return i;
@@ -30,6 +30,35 @@ pub fn find(s: &[u8], from: usize, octet: u8) -> usize
         i += 1;
     }
     i
+}
+
+// Goes on from `from` by stretches that have no such octet, up to one that has it or is not whole.
+fn pass(s: &[u8], from: usize, octet: u8) -> usize
+    requires { ⌜ from ≤ length (now s) ⌝ }
+    ensures { λ r. ⌜ (from ≤ r) × (r ≤ length (now (s .entry))) ⌝ }
+{
+    let mut i = from;
+    while s.len() - i >= 16 {
+        if has(s, i, octet) {
+            return i;
+        }
+        i += 16;
+    }
+    i
+}
+
+// Whether the octet is one of the sixteen from `at` on. No turn leaves early, so that they are
+// compared all at once.
+fn has(s: &[u8], at: usize, octet: u8) -> bool
+    requires { ⌜ at + 16 ≤ length (now s) ⌝ }
+{
+    let mut found = 0u8;
+    let mut k = 0;
+    while k < 16 {
+        found = found | ((s[at + k] == octet) as u8);
+        k += 1;
+    }
+    found != 0
 }
 
 // Puts s into t from `at` on, and answers the place behind it.

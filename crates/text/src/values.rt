@@ -28,6 +28,16 @@ pub fn value_of(parsed: Parsed) -> usize
     }
 }
 
+// Puts a value at place k of `numbers`, where there is one, and answers the next.
+pub fn keep(value: usize, numbers: &mut [usize], k: usize) -> usize {
+    if k < numbers.len() {
+        numbers[k] = value;
+        return k + 1;
+    }
+    k
+}
+
+// Above every digit's value, and with a bit that none of them has.
 const NO_DIGIT: u8 = 16;
 
 // The value of a hexadecimal digit, in either case.
@@ -42,6 +52,19 @@ fn digit(octet: u8) -> u8
     }
 }
 
+fn decimal_digit(octet: u8) -> u8
+    ensures { λ r. ⌜ r ≤ 16 ⌝ }
+{
+    match octet {
+        b'0'..=b'9' => octet - b'0',
+        _ => NO_DIGIT,
+    }
+}
+
+pub fn is_digit(octet: u8) -> bool {
+    decimal_digit(octet) < NO_DIGIT
+}
+
 // A number has at most 64 bits, as a `usize` has.
 pub fn number(word: &[u8]) -> Parsed {
     if word.len() == 0 {
@@ -50,7 +73,7 @@ pub fn number(word: &[u8]) -> Parsed {
     let mut value: usize = 0;
     let mut i = 0;
     while i < word.len() {
-        let d = to_usize(digit(word[i]));
+        let d = to_usize(decimal_digit(word[i]));
         if d > 9 {
             return Parsed::Bad(Fault::Number);
         }
@@ -154,16 +177,26 @@ fn decimal_octets(digits: &[u8], store: &mut [u8]) -> Parsed
     if digits.len() > store.len() {
         return Parsed::Bad(Fault::Long);
     }
+    if all_digits(digits, store) {
+        return Parsed::Value(digits.len());
+    }
+    Parsed::Bad(Fault::Bits)
+}
+
+// Puts each digit into the store, and answers whether all of them are digits. No turn leaves early,
+// so that many digits are read at once.
+fn all_digits(digits: &[u8], store: &mut [u8]) -> bool
+    requires { ⌜ length (now digits) ≤ length (now store) ⌝ }
+{
+    let mut seen = 0u8;
     let mut i = 0;
     while i < digits.len() {
-        let d = digit(digits[i]);
-        if d > 9 {
-            return Parsed::Bad(Fault::Bits);
-        }
+        let d = decimal_digit(digits[i]);
         store[i] = d;
+        seen = seen | d;
         i += 1;
     }
-    Parsed::Value(i)
+    seen < NO_DIGIT
 }
 
 // Half an octet takes the room of a whole one, so it is too long before it is half an octet.
@@ -177,28 +210,25 @@ fn hexadecimal_octets(digits: &[u8], store: &mut [u8], other: Fault) -> Parsed
     if digits.len() % 2 != 0 {
         return Parsed::Bad(other);
     }
-    if pairs(digits, store) {
+    if all_pairs(digits, store) {
         return Parsed::Value(digits.len() / 2);
     }
     Parsed::Bad(other)
 }
 
-// Puts an octet into the store for every two digits, and answers whether all of them are digits.
-fn pairs(digits: &[u8], store: &mut [u8]) -> bool
+// Puts an octet into the store for every two digits, and answers whether all of them are digits; no
+// turn leaves early here either.
+fn all_pairs(digits: &[u8], store: &mut [u8]) -> bool
     requires { ⌜ length (now digits) ≤ 2 * length (now store) ⌝ }
 {
+    let mut seen = 0u8;
     let mut i = 0;
     while i < digits.len() / 2 {
         let high = digit(digits[2 * i]);
         let low = digit(digits[2 * i + 1]);
-        if high > 15 {
-            return false;
-        }
-        if low > 15 {
-            return false;
-        }
         store[i] = (high << 4) | low;
+        seen = seen | high | low;
         i += 1;
     }
-    true
+    seen < NO_DIGIT
 }

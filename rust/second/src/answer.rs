@@ -1,163 +1,19 @@
 //! Answers one line (docs/REQUESTS.md, "Requests" and "Errors").
 
-use crate::checksum::{checksum, checksum_of_octets};
 use crate::errors::Fault;
-use crate::hosted::{hosted_receive, hosted_send};
-use crate::numbers::{Number, DONE};
-use crate::octets::packed;
-use crate::output::lend;
-use crate::parity;
-use crate::plan;
-use crate::rate;
-use crate::receive;
-use crate::record;
-use crate::requests::{request, Receiving, Request, Sending};
-use crate::send;
-use crate::shelf::{self, Asked, Found, Side};
+use crate::requests::request;
 
 /// The answer without its newline, or none for a line that has no answer.
 pub fn answer(line: &[u8]) -> Option<String> {
     match request(line) {
         Ok(None) => None,
-        Ok(Some(request)) => Some(answer_to(&request).unwrap_or_else(error)),
+        Ok(Some((kind, given))) => Some((kind.answer)(given).unwrap_or_else(error)),
         Err(fault) => Some(error(fault)),
     }
 }
 
 fn error(fault: Fault) -> String {
     format!("error {}", fault.word())
-}
-
-fn answer_to(request: &Request) -> Result<String, Fault> {
-    match request {
-        Request::Crc { width, bits } => Ok(sum(checksum(*width, bits))),
-        Request::Crcoct { width, octets } => Ok(sum(checksum_of_octets(*width, octets))),
-        Request::Profile { record } => Ok(profile(record)),
-        Request::Plan { record, octets } => Ok(plan(record, *octets)),
-        Request::Encode {
-            record,
-            z,
-            places,
-            length,
-        } => written(*length, digits, |output| {
-            parity::encode(record, *z, places, output)
-        }),
-        Request::Check { record, z, bits } => Ok(check(record, *z, bits)),
-        Request::Rate { e, places, length } => written(*length, hex_of_bits, |output| {
-            rate::rate(*e, places, output)
-        }),
-        Request::Send { record, sending } => send(record, sending),
-        Request::Recv { record, receiving } => recv(record, receiving),
-        Request::Lookup { shelves } => Ok(lookup(shelves)),
-        Request::Hsend { shelves, sending } => hsend(shelves, sending),
-        Request::Hrecv { shelves, receiving } => hrecv(shelves, receiving),
-    }
-}
-
-/// The number and the count of a call, and what it wrote, in the form of the request.
-fn written(
-    length: usize,
-    form: fn(&[u8]) -> String,
-    call: impl FnOnce(&mut [u8]) -> Result<usize, Number>,
-) -> Result<String, Fault> {
-    Ok(match lend(length, call)? {
-        Ok(octets) => format!("{DONE} {} {}", octets.len(), form(&octets)),
-        Err(number) => format!("{number} 0 -"),
-    })
-}
-
-/// One digit for each place.
-fn digits(places: &[u8]) -> String {
-    places.iter().map(u8::to_string).collect()
-}
-
-/// Two digits for each octet, or `-` for none.
-fn hex(octets: &[u8]) -> String {
-    if octets.is_empty() {
-        return "-".to_string();
-    }
-    let digit = |value: u8| char::from(b"0123456789abcdef"[usize::from(value)]);
-    octets
-        .iter()
-        .flat_map(|octet| [digit(octet / 16), digit(octet % 16)])
-        .collect()
-}
-
-/// Single bits packed into octets.
-fn hex_of_bits(bits: &[u8]) -> String {
-    hex(&packed(bits))
-}
-
-fn sum(checksum: Result<u32, Number>) -> String {
-    match checksum {
-        Ok(value) => format!("{DONE} {value:x}"),
-        Err(number) => format!("{number} 0"),
-    }
-}
-
-fn profile(record: &[u8]) -> String {
-    let number = record::profile(record).err().unwrap_or(DONE);
-    number.to_string()
-}
-
-fn plan(record: &[u8], octets: u64) -> String {
-    match plan::plan(record, octets) {
-        Ok(plan) => format!("{DONE} {} {} {} {}", plan.b, plan.c, plan.k, plan.z),
-        Err(number) => format!("{number} 0 0 0 0"),
-    }
-}
-
-fn check(record: &[u8], z: u64, bits: &[u8]) -> String {
-    match parity::check(record, z, bits) {
-        Ok(checks) => format!("{DONE} {}", u8::from(checks)),
-        Err(number) => format!("{number} 0"),
-    }
-}
-
-fn send(record: &[u8], sending: &Sending) -> Result<String, Fault> {
-    let Sending { block, asked, .. } = sending;
-    written(sending.length, hex_of_bits, |output| {
-        send::send(record, block, *asked, output)
-    })
-}
-
-fn recv(record: &[u8], receiving: &Receiving) -> Result<String, Fault> {
-    let Receiving {
-        a, layers, order, ..
-    } = *receiving;
-    written(receiving.length, hex, |output| {
-        receive::receive(record, a, layers, order, &receiving.bits, output)
-    })
-}
-
-fn lookup(shelves: &Asked) -> String {
-    match shelf::lookup(shelves) {
-        Ok(Found { side, stretch }) => {
-            let name = match side {
-                Side::Private => "private",
-                Side::Public => "public",
-            };
-            format!("{DONE} {name} {} {}", stretch.start, stretch.len())
-        }
-        // "With a refusal it is the empty stretch at the start of the public shelf."
-        Err(number) => format!("{number} public 0 0"),
-    }
-}
-
-fn hsend(shelves: &Asked, sending: &Sending) -> Result<String, Fault> {
-    let Sending { block, asked, .. } = sending;
-    written(sending.length, hex_of_bits, |output| {
-        hosted_send(shelves, block, *asked, output)
-    })
-}
-
-fn hrecv(shelves: &Asked, receiving: &Receiving) -> Result<String, Fault> {
-    let Receiving {
-        a, layers, order, ..
-    } = *receiving;
-    written(receiving.length, hex, |output| {
-        hosted_receive(shelves, a, layers, order, &receiving.bits, output)
-    })
 }
 
 #[cfg(test)]

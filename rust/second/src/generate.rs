@@ -1,25 +1,25 @@
 //! Writes requests for comparing two implementations: good, refused, broken and very long ones.
 
 mod broken;
-mod crc;
-mod crcoct;
-mod hosted;
-mod kinds;
+pub mod crc;
+pub mod crcoct;
+pub mod hosted;
 mod large;
-mod parity;
-mod profile;
-mod rate;
+mod makers;
+pub mod parity;
+pub mod profile;
+pub mod rate;
 mod records;
-mod recv;
-mod send;
+pub mod recv;
+pub mod send;
 mod shelf;
 mod write;
 
 use std::io::{self, Write};
 
+use crate::kinds::{named, Kind, KINDS};
 use crate::random::Random;
-pub use kinds::Kind;
-use kinds::KINDS;
+pub use makers::Makers;
 
 /// The very long lines stand apart by this much, so that a file of some thousand stays small.
 const LARGE_EVERY: u64 = 1000;
@@ -27,7 +27,7 @@ const LARGE_EVERY: u64 = 1000;
 /// The kinds that are asked for: that of a name, or all of them; none where there is no such name.
 pub fn kinds(name: Option<&str>) -> Option<Vec<&'static Kind>> {
     match name {
-        Some(name) => Some(vec![kinds::named(name)?]),
+        Some(name) => Some(vec![named(name.as_bytes())?]),
         None => Some(KINDS.iter().collect()),
     }
 }
@@ -51,8 +51,8 @@ fn line(kinds: &[&Kind], seed: u64, place: u64, random: &mut Random) -> Vec<u8> 
     }
     let kind = random.pick(kinds);
     let mut line = match random.below(10) {
-        0..=3 => write::line(&(kind.done)(random)),
-        4..=7 => write::line(&(kind.refused)(random)),
+        0..=3 => write::line(&kind.done(random)),
+        4..=7 => write::line(&kind.refused(random)),
         _ => broken::line(kind, random),
     };
     if random.one_in(12) {
@@ -83,7 +83,8 @@ mod tests {
     use super::{generate, kinds};
     use crate::answer::answer;
     use crate::lines::next_line;
-    use std::collections::BTreeMap;
+    use crate::numbers::Number;
+    use std::collections::{BTreeMap, BTreeSet};
 
     fn generated(kind: Option<&str>, seed: u64, count: u64) -> Vec<u8> {
         let mut output = Vec::new();
@@ -113,10 +114,10 @@ mod tests {
 
     /// The numbers that are answered often enough among 3,000 requests of a kind, and the rest of
     /// the answers.
-    fn numbers_of(kind: &str) -> (Vec<u8>, BTreeMap<String, usize>) {
+    fn numbers_of(kind: &str) -> (BTreeSet<Number>, BTreeMap<String, usize>) {
         let mut counts = answers(&generated(Some(kind), 2, 3000));
-        let numbers = (0..=15)
-            .filter(|number: &u8| counts.remove(&number.to_string()) > Some(20))
+        let numbers = (0..=Number::MAX)
+            .filter(|number| counts.remove(&number.to_string()) > Some(20))
             .collect();
         (numbers, counts)
     }
@@ -164,6 +165,7 @@ mod tests {
             ("hrecv", &[0, 1, 2, 3, 4, 5, 6, 7, 8, 9, 10, 11, 12, 13, 14]),
         ] {
             let (numbers, others) = numbers_of(kind);
+            let expected = expected.iter().copied().collect();
             assert_eq!(numbers, expected, "{kind}: {others:?}");
         }
     }

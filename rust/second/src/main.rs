@@ -6,8 +6,10 @@ mod answer;
 mod checksum;
 mod draft;
 mod errors;
+mod form;
 mod generate;
 mod hosted;
+mod kinds;
 mod lines;
 mod matrix;
 mod numbers;
@@ -33,7 +35,7 @@ use std::io::{self, BufWriter, Write};
 use std::path::PathBuf;
 use std::process::ExitCode;
 
-use generate::Kind;
+use kinds::Kind;
 
 const HELP: &str = "\
 second replay

@@ -4,6 +4,23 @@ use std::fs::{self, File};
 use std::path::Path;
 use std::process::{Command, Output, Stdio};
 
+fn page() -> String {
+    let page = Path::new(env!("CARGO_MANIFEST_DIR")).join("../../docs/REQUESTS.md");
+    fs::read_to_string(page).unwrap()
+}
+
+/// The names of the requests that the page lists, in a table under "Requests".
+fn kinds(page: &str) -> Vec<&str> {
+    let (_, table) = page.split_once("## Requests\n").unwrap();
+    let names: Vec<&str> = table
+        .lines()
+        .filter_map(|line| line.strip_prefix("| `"))
+        .map(|line| line.split([' ', '`']).next().unwrap())
+        .collect();
+    assert!(names.contains(&"crc") && names.len() >= 12, "{names:?}");
+    names
+}
+
 fn second(arguments: &[&str], input: Stdio) -> Output {
     Command::new(env!("CARGO_BIN_EXE_second"))
         .args(arguments)
@@ -26,13 +43,18 @@ fn chosen_requests_are_answered_as_recorded() {
 
 #[test]
 fn the_examples_of_the_format_are_answered_as_it_says() {
-    let page = Path::new(env!("CARGO_MANIFEST_DIR")).join("../../docs/REQUESTS.md");
-    let text = fs::read_to_string(&page).unwrap();
+    let text = page();
     let examples: Vec<&str> = text
         .lines()
         .filter_map(|line| line.strip_prefix("    "))
         .collect();
-    assert_eq!(examples.len(), 12, "one for each request");
+    for kind in kinds(&text) {
+        let begin = format!("{kind} ");
+        assert!(
+            examples.iter().any(|line| line.starts_with(&begin)),
+            "{kind}"
+        );
+    }
     let file = Path::new(env!("CARGO_TARGET_TMPDIR")).join("examples");
     fs::write(&file, examples.join("\n")).unwrap();
     let output = second(&["replay"], File::open(&file).unwrap().into());
@@ -70,10 +92,7 @@ fn generate_writes_lines() {
 
 #[test]
 fn generate_writes_lines_of_one_kind() {
-    for kind in [
-        "crc", "crcoct", "profile", "plan", "encode", "check", "rate", "send", "recv", "lookup",
-        "hsend", "hrecv",
-    ] {
+    for kind in kinds(&page()) {
         let output = second(&["generate", "2", "50", kind], Stdio::null());
         let text = String::from_utf8_lossy(&output.stdout);
         let begin = format!("{kind} ");

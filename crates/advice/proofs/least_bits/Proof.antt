@@ -16,7 +16,7 @@ returns : tie.Need-returns
 returns c =
     let a = c .before .before .before .before .args in
     let n = c .before .before .cut-number in
-    first-refused (now (a .profile)) (a .octets) (a .nl) (a .qm) (n .result) (n .ensures) (c .before .if1 .taken) _ (c .refused .ensures)
+    first-refused (now (a .profile)) (a .octets) (a .terms) (n .result) (n .ensures) (c .before .if1 .taken) _ (c .refused .ensures)
 
 least-cut-requires : tie.Need-least-cut-requires
 least-cut-requires c κs = sym (c .before .cut-number .ensures) ∙ c .if1 .left

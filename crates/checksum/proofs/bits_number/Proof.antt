@@ -2,10 +2,10 @@
 use mathlib.Core.Path.{_≡_}
 use mathlib.Core.Bool.{true, false}
 use borrow.Author.Needs.{needs}
-use Rattle.checksum.specs.Promises.{otherWidth, bitsNumber}
 use denote.Ref.{now}
 use Rattle.bits.specs.Bits.{someOver}
 use Rattle.bits.specs.Numbers.{answered}
+use Rattle.checksum.specs.Promises.{otherWidth, bitsNumber}
 use Rattle.checksum.proofs.bits_number.Statement.{statement}
 use Rattle.checksum.proofs.bits_number.Tie as tie
 

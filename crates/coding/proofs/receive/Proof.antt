@@ -14,13 +14,13 @@ returns : tie.Need-returns
 returns c =
     let a = c .before .before .before .before .before .args in
     let number = c .before .reception-number in
-    let first = receive-first (now (a .profile)) (a .a) (a .nl) (a .qm) (now (a .bits)) (now (a .out)) (λ z. c .if1 .taken (number .ensures ∙ z)) in
-    receive-refused (now (a .profile)) (a .a) (a .nl) (a .qm) (now (a .bits)) (now (a .out)) (number .result) (number .ensures ∙ first) (c .if1 .taken)
+    let first = receive-first (now (a .profile)) (a .a) (a .terms) (now (a .bits)) (now (a .out)) (λ z. c .if1 .taken (number .ensures ∙ z)) in
+    receive-refused (now (a .profile)) (a .a) (a .terms) (now (a .bits)) (now (a .out)) (number .result) (number .ensures ∙ first) (c .if1 .taken)
 
 receive-accepted-requires : tie.Need-receive-accepted-requires
 receive-accepted-requires c κs =
     let a = c .before .before .before .before .before .before .args in
-    reception-passed (now (a .profile)) (a .a) (a .nl) (a .qm) (now (a .bits)) (length (now (a .out))) (sym (c .before .before .reception-number .ensures) ∙ c .before .if1 .left)
+    reception-passed (now (a .profile)) (a .a) (a .terms) (now (a .bits)) (length (now (a .out))) (sym (c .before .before .reception-number .ensures) ∙ c .before .if1 .left)
 
 same-length : tie.Need-same-length
 same-length c = search needs
@@ -29,7 +29,7 @@ returns-2 : tie.Need-returns-2
 returns-2 c =
     let arg = c .before .before .before in
     let a = arg .before .before .before .before .before .before .args in
-    receive-decided (now (a .profile)) (a .a) (a .nl) (a .qm) (now (a .bits)) (now (a .out)) (sym (arg .before .before .reception-number .ensures) ∙ arg .before .if1 .left) _ _ (c .before .before .receive-accepted .ensures)
+    receive-decided (now (a .profile)) (a .a) (a .terms) (now (a .bits)) (now (a .out)) (sym (arg .before .before .reception-number .ensures) ∙ arg .before .if1 .left) _ _ (c .before .before .receive-accepted .ensures)
 
 pub receive-spec : {M : Type 1} → statement M
 receive-spec =

@@ -4,20 +4,18 @@ use mathlib.Core.Bool.{true, true≢false}
 use mathlib.Core.List.{List}
 use Prim.Native.Nat.{ℕ, _<_}
 use native.Mathlib.Omega.{arith}
-use lib.Dec.{lit<, lit≤}
 use lib.ListN.{length, getD, take}
 use lib.Seq.{sets, length-take-le}
 use denote.Ref.{now}
 use borrow.Author.Tests.{not-true, not-false}
 use borrow.Author.Needs.{needs}
 use Rattle.bits.specs.Bits.{packed}
-use Rattle.checksum.specs.Crc.{gen24A}
-use Rattle.checksum.specs.steps.Testing.{checks}
-use Rattle.profile.specs.Plan.{blockBits}
-use Rattle.profile.proofs.Plans.{plan-passed}
+use Rattle.cutting.specs.Plan.{blockBits}
+use Rattle.cutting.specs.steps.Plans.{checked}
+use Rattle.cutting.proofs.Plans.{plan-passed}
+use Rattle.cutting.proofs.PlanFields.{bits-is}
 use Rattle.coding.specs.steps.Receiving.{gathered}
 use Rattle.coding.proofs.Gathered.{has-room-of, gathered-length, gathered-bits}
-use Rattle.coding.proofs.PlanFields.{bits-is}
 use Rattle.coding.proofs.Received.{decided-unsent, decided-found}
 use Rattle.coding.proofs.receive_through.Statement.{statement}
 use Rattle.coding.proofs.receive_through.Tie as tie
@@ -55,9 +53,9 @@ returns c = let st = c .before .before .before .before .before .before .before .
     let plan = c .before .before .before .before .before .plan-accepted in
     let count : plan .result .bits ≡ blockBits (a .octets) = bits-is R (a .octets) (plan .result) (plan .ensures) (h .taken) in
     let tried = c .before .before .before .rebuild-bits in
-    let long = tried .kept .1 .1 .1 .1 .1 .0 in
+    let long = tried .kept .1 .1 .1 .1 .0 in
     let told = rw count at (tried .ensures .other (not-true _ (c .if1 .taken))) in
-    decided-unsent R (a .octets) (a .nl) (a .qm) s h (λ parity all sum. told parity all) (now (a .out))
+    decided-unsent R (a .octets) (a .terms) s h (λ parity all sum. told parity all) (now (a .out))
 
 slice-reshare-prefix-is-attached : tie.Need-slice-reshare-prefix-is-attached
 unfolding blockBits
@@ -70,7 +68,7 @@ slice-reshare-prefix-is-attached c = let st = c .before .before .before .before 
     let plan = c .before .before .before .before .before .plan-accepted in
     let count : plan .result .bits ≡ blockBits (a .octets) = bits-is R (a .octets) (plan .result) (plan .ensures) (h .taken) in
     let tried = c .before .before .before .rebuild-bits in
-    let long = tried .kept .1 .1 .1 .1 .1 .0 in
+    let long = tried .kept .1 .1 .1 .1 .0 in
     omega (arith, count, ok .2, st .pre .1, long)
 
 slice-aggregate-is-attached : tie.Need-slice-aggregate-is-attached
@@ -84,8 +82,8 @@ slice-aggregate-is-attached c = let st = c .before .before .before .before .befo
     let plan = c .before .before .before .before .before .before .plan-accepted in
     let count : plan .result .bits ≡ blockBits (a .octets) = bits-is R (a .octets) (plan .result) (plan .ensures) (h .taken) in
     let tried = c .before .before .before .before .rebuild-bits in
-    let long = tried .kept .1 .1 .1 .1 .1 .0 in
-    sym (length-take-le (plan .result .bits) (tried .last .1 .1 .1 .1 .1 .0) (omega (arith, count, ok .2, st .pre .1, long)))
+    let long = tried .kept .1 .1 .1 .1 .0 in
+    sym (length-take-le (plan .result .bits) (tried .last .1 .1 .1 .1 .0) (omega (arith, count, ok .2, st .pre .1, long)))
 
 is-attached-requires : tie.Need-is-attached-requires
 unfolding blockBits
@@ -98,13 +96,13 @@ is-attached-requires c κs = let st = c .before .before .before .before .before 
     let plan = c .before .before .before .before .before .before .plan-accepted in
     let count : plan .result .bits ≡ blockBits (a .octets) = bits-is R (a .octets) (plan .result) (plan .ensures) (h .taken) in
     let tried = c .before .before .before .before .rebuild-bits in
-    let long = tried .kept .1 .1 .1 .1 .1 .0 in
+    let long = tried .kept .1 .1 .1 .1 .0 in
     let is = rw count at (tried .ensures .sent (not-false _ (c .before .if1 .left))) in
-    let t = gathered R (blockBits (a .octets)) (a .nl) (a .qm) s in
-    let front : take (plan .result .bits) (tried .last .1 .1 .1 .1 .1 .0) ≡ t = ap (λ (n : ℕ). take n (tried .last .1 .1 .1 .1 .1 .0)) count ∙ is .2 in
-    let single = gathered-bits R (blockBits (a .octets)) (a .nl) (a .qm) s (has-room-of R (a .octets) (a .nl) (a .qm) s h) in
-    let size : length t ≡ blockBits (a .octets) = gathered-length R (blockBits (a .octets)) (a .nl) (a .qm) s (has-room-of R (a .octets) (a .nl) (a .qm) s h) in
-    (record { some = lit< tt; most = lit≤ tt; below = lit< tt }, rw (front, size) (omega arith), λ k. subst (λ (l : List ℕ). getD l k 0 < 2) (sym front) (single k))
+    let t = gathered R (blockBits (a .octets)) (a .terms) s in
+    let front : take (plan .result .bits) (tried .last .1 .1 .1 .1 .0) ≡ t = ap (λ (n : ℕ). take n (tried .last .1 .1 .1 .1 .0)) count ∙ is .2 in
+    let single = gathered-bits R (blockBits (a .octets)) (a .terms) s (has-room-of R (a .octets) (a .terms) s h) in
+    let size : length t ≡ blockBits (a .octets) = gathered-length R (blockBits (a .octets)) (a .terms) s (has-room-of R (a .octets) (a .terms) s h) in
+    (λ k. subst (λ (l : List ℕ). getD l k 0 < 2) (sym front) (single k), rw (front, size) (omega arith))
 
 same-length-2 : tie.Need-same-length-2
 same-length-2 c = search needs
@@ -119,15 +117,15 @@ returns-2 c = let st = c .before .before .before .before .before .before .before
     let plan = c .before .before .before .before .before .before .before .before .plan-accepted in
     let count : plan .result .bits ≡ blockBits (a .octets) = bits-is R (a .octets) (plan .result) (plan .ensures) (h .taken) in
     let tried = c .before .before .before .before .before .before .rebuild-bits in
-    let long = tried .kept .1 .1 .1 .1 .1 .0 in
+    let long = tried .kept .1 .1 .1 .1 .0 in
     let is = rw count at (tried .ensures .sent (not-false _ (c .before .before .before .if1 .left))) in
-    let t = gathered R (blockBits (a .octets)) (a .nl) (a .qm) s in
-    let front : take (plan .result .bits) (tried .last .1 .1 .1 .1 .1 .0) ≡ t = ap (λ (n : ℕ). take n (tried .last .1 .1 .1 .1 .1 .0)) count ∙ is .2 in
-    let single = gathered-bits R (blockBits (a .octets)) (a .nl) (a .qm) s (has-room-of R (a .octets) (a .nl) (a .qm) s h) in
-    let size : length t ≡ blockBits (a .octets) = gathered-length R (blockBits (a .octets)) (a .nl) (a .qm) s (has-room-of R (a .octets) (a .nl) (a .qm) s h) in
+    let t = gathered R (blockBits (a .octets)) (a .terms) s in
+    let front : take (plan .result .bits) (tried .last .1 .1 .1 .1 .0) ≡ t = ap (λ (n : ℕ). take n (tried .last .1 .1 .1 .1 .0)) count ∙ is .2 in
+    let single = gathered-bits R (blockBits (a .octets)) (a .terms) s (has-room-of R (a .octets) (a .terms) s h) in
+    let size : length t ≡ blockBits (a .octets) = gathered-length R (blockBits (a .octets)) (a .terms) s (has-room-of R (a .octets) (a .terms) s h) in
     let told = c .before .is-attached .ensures in
-    decided-unsent R (a .octets) (a .nl) (a .qm) s h
-    (λ parity all sum. true≢false (sym sum ∙ ap (checks 24 gen24A) (sym front) ∙ sym told ∙ not-true _ (c .if2 .taken))) (now (a .out))
+    decided-unsent R (a .octets) (a .terms) s h
+    (λ parity all sum. true≢false (sym sum ∙ ap checked (sym front) ∙ sym told ∙ not-true _ (c .if2 .taken))) (now (a .out))
 
 slice-reshare-prefix-pack : tie.Need-slice-reshare-prefix-pack
 unfolding blockBits
@@ -140,7 +138,7 @@ slice-reshare-prefix-pack c = let st = c .before .before .before .before .before
     let plan = c .before .before .before .before .before .before .before .before .plan-accepted in
     let count : plan .result .bits ≡ blockBits (a .octets) = bits-is R (a .octets) (plan .result) (plan .ensures) (h .taken) in
     let tried = c .before .before .before .before .before .before .rebuild-bits in
-    let long = tried .kept .1 .1 .1 .1 .1 .0 in
+    let long = tried .kept .1 .1 .1 .1 .0 in
     omega (arith, count, ok .2, st .pre .1, long)
 
 slice-aggregate-pack : tie.Need-slice-aggregate-pack
@@ -154,8 +152,8 @@ slice-aggregate-pack c = let st = c .before .before .before .before .before .bef
     let plan = c .before .before .before .before .before .before .before .before .before .plan-accepted in
     let count : plan .result .bits ≡ blockBits (a .octets) = bits-is R (a .octets) (plan .result) (plan .ensures) (h .taken) in
     let tried = c .before .before .before .before .before .before .before .rebuild-bits in
-    let long = tried .kept .1 .1 .1 .1 .1 .0 in
-    sym (length-take-le (plan .result .bits) (tried .last .1 .1 .1 .1 .1 .0) (omega (arith, count, ok .2, st .pre .1, long)))
+    let long = tried .kept .1 .1 .1 .1 .0 in
+    sym (length-take-le (plan .result .bits) (tried .last .1 .1 .1 .1 .0) (omega (arith, count, ok .2, st .pre .1, long)))
 
 pack-requires : tie.Need-pack-requires
 unfolding blockBits
@@ -168,12 +166,12 @@ pack-requires c κs = let st = c .before .before .before .before .before .before
     let plan = c .before .before .before .before .before .before .before .before .before .before .plan-accepted in
     let count : plan .result .bits ≡ blockBits (a .octets) = bits-is R (a .octets) (plan .result) (plan .ensures) (h .taken) in
     let tried = c .before .before .before .before .before .before .before .before .rebuild-bits in
-    let long = tried .kept .1 .1 .1 .1 .1 .0 in
+    let long = tried .kept .1 .1 .1 .1 .0 in
     let is = rw count at (tried .ensures .sent (not-false _ (c .before .before .before .before .before .if1 .left))) in
-    let t = gathered R (blockBits (a .octets)) (a .nl) (a .qm) s in
-    let front : take (plan .result .bits) (tried .last .1 .1 .1 .1 .1 .0) ≡ t = ap (λ (n : ℕ). take n (tried .last .1 .1 .1 .1 .1 .0)) count ∙ is .2 in
-    let single = gathered-bits R (blockBits (a .octets)) (a .nl) (a .qm) s (has-room-of R (a .octets) (a .nl) (a .qm) s h) in
-    let size : length t ≡ blockBits (a .octets) = gathered-length R (blockBits (a .octets)) (a .nl) (a .qm) s (has-room-of R (a .octets) (a .nl) (a .qm) s h) in
+    let t = gathered R (blockBits (a .octets)) (a .terms) s in
+    let front : take (plan .result .bits) (tried .last .1 .1 .1 .1 .0) ≡ t = ap (λ (n : ℕ). take n (tried .last .1 .1 .1 .1 .0)) count ∙ is .2 in
+    let single = gathered-bits R (blockBits (a .octets)) (a .terms) s (has-room-of R (a .octets) (a .terms) s h) in
+    let size : length t ≡ blockBits (a .octets) = gathered-length R (blockBits (a .octets)) (a .terms) s (has-room-of R (a .octets) (a .terms) s h) in
     (st .pre .2, rw (front, size) (omega arith), λ k. subst (λ (l : List ℕ). getD l k 0 < 2) (sym front) (single k))
 
 same-length-3 : tie.Need-same-length-3
@@ -192,15 +190,15 @@ returns-3 c = let st = c .before .before .before .before .before .before .before
     let plan = c .before .before .before .before .before .before .before .before .before .before .before .before .before .plan-accepted in
     let count : plan .result .bits ≡ blockBits (a .octets) = bits-is R (a .octets) (plan .result) (plan .ensures) (h .taken) in
     let tried = c .before .before .before .before .before .before .before .before .before .before .before .rebuild-bits in
-    let long = tried .kept .1 .1 .1 .1 .1 .0 in
+    let long = tried .kept .1 .1 .1 .1 .0 in
     let is = rw count at (tried .ensures .sent (not-false _ (c .before .before .before .before .before .before .before .before .if1 .left))) in
-    let t = gathered R (blockBits (a .octets)) (a .nl) (a .qm) s in
-    let front : take (plan .result .bits) (tried .last .1 .1 .1 .1 .1 .0) ≡ t = ap (λ (n : ℕ). take n (tried .last .1 .1 .1 .1 .1 .0)) count ∙ is .2 in
-    let single = gathered-bits R (blockBits (a .octets)) (a .nl) (a .qm) s (has-room-of R (a .octets) (a .nl) (a .qm) s h) in
-    let size : length t ≡ blockBits (a .octets) = gathered-length R (blockBits (a .octets)) (a .nl) (a .qm) s (has-room-of R (a .octets) (a .nl) (a .qm) s h) in
+    let t = gathered R (blockBits (a .octets)) (a .terms) s in
+    let front : take (plan .result .bits) (tried .last .1 .1 .1 .1 .0) ≡ t = ap (λ (n : ℕ). take n (tried .last .1 .1 .1 .1 .0)) count ∙ is .2 in
+    let single = gathered-bits R (blockBits (a .octets)) (a .terms) s (has-room-of R (a .octets) (a .terms) s h) in
+    let size : length t ≡ blockBits (a .octets) = gathered-length R (blockBits (a .octets)) (a .terms) s (has-room-of R (a .octets) (a .terms) s h) in
     let told = c .before .before .before .before .before .before .is-attached .ensures in
-    let sum : checks 24 gen24A t ≡ true = ap (checks 24 gen24A) (sym front) ∙ sym told ∙ not-false _ (c .before .before .before .before .before .if2 .left) in
-    decided-found R (a .octets) (a .nl) (a .qm) s h (is .0) (is .1) sum (now (a .out)) _ (st .pre .2)
+    let sum : checked t ≡ true = ap checked (sym front) ∙ sym told ∙ not-false _ (c .before .before .before .before .before .if2 .left) in
+    decided-found R (a .octets) (a .terms) s h (is .0) (is .1) sum (now (a .out)) _ (st .pre .2)
     (c .before .before .pack .ensures ∙ ap (λ (l : List ℕ). sets (now (a .out)) 0 (packed (a .octets) l)) front)
 
 pub receive-through-spec : {M : Type 1} → statement M

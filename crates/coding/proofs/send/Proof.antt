@@ -13,8 +13,8 @@ returns : tie.Need-returns
 returns c =
     let a = c .before .before .before .before .before .args in
     let number = c .before .request-number in
-    let first = send-first (now (a .profile)) (now (a .block)) (a .nl) (a .qm) (a .g .0) (now (a .out)) (λ z. c .if1 .taken (number .ensures ∙ z)) in
-    send-refused (now (a .profile)) (now (a .block)) (a .nl) (a .qm) (a .g .0) (now (a .out)) (number .result) (number .ensures ∙ first) (c .if1 .taken)
+    let first = send-first (now (a .profile)) (now (a .block)) (a .terms) (a .g .0) (now (a .out)) (λ z. c .if1 .taken (number .ensures ∙ z)) in
+    send-refused (now (a .profile)) (now (a .block)) (a .terms) (a .g .0) (now (a .out)) (number .result) (number .ensures ∙ first) (c .if1 .taken)
 
 send-accepted-requires : tie.Need-send-accepted-requires
 send-accepted-requires c κs = sym (c .before .before .request-number .ensures) ∙ c .before .if1 .left

@@ -6,13 +6,14 @@ use lib.ListN.{length, take}
 use lib.Seq.{length-take-le}
 use denote.Ref.{now}
 use borrow.Author.Needs.{needs}
-use Rattle.profile.specs.Plan.{blockBits}
-use Rattle.profile.proofs.Plans.{plan-passed, plan-cut}
-use Rattle.coding.specs.Transport.{transport}
+use Rattle.cutting.specs.Plan.{blockBits}
+use Rattle.cutting.specs.Transport.{transport}
+use Rattle.cutting.proofs.Plans.{plan-passed, plan-cut}
+use Rattle.cutting.proofs.PlanFields.{bits-is, blocks-are}
+use Rattle.cutting.proofs.Transported.{length-transport, front-set, ready-transport}
 use Rattle.coding.proofs.Shares.{allocated}
-use Rattle.coding.proofs.PlanFields.{bits-is, blocks-are}
 use Rattle.coding.proofs.RequestNumber.{request-passed}
-use Rattle.coding.proofs.Transported.{generator-24, length-transport, front-set, ready-transport, sent-whole}
+use Rattle.coding.proofs.Answers.{sent-whole}
 use Rattle.coding.proofs.send_through.Statement.{statement}
 use Rattle.coding.proofs.send_through.Tie as tie
 
@@ -22,18 +23,19 @@ plan-accepted-requires c κs =
     let a = st .args in
     let R = now (a .profile) in
     let block = now (a .block) in
-    let ok = request-passed R (length block) (a .nl) (a .qm) (a .g .0) (a .g .0) (length (now (a .out))) (st .pre .0) in
+    let ok = request-passed R (length block) (a .terms) (a .g .0) (a .g .0) (length (now (a .out))) (st .pre .0) in
     plan-passed R (length block) (ok .0) .0
 
 attach-requires : tie.Need-attach-requires
+unfolding blockBits
 attach-requires c κs =
     let st = c .before .before .before .before .before .before in
     let a = st .args in
     let R = now (a .profile) in
     let block = now (a .block) in
-    let ok = request-passed R (length block) (a .nl) (a .qm) (a .g .0) (a .g .0) (length (now (a .out))) (st .pre .0) in
+    let ok = request-passed R (length block) (a .terms) (a .g .0) (a .g .0) (length (now (a .out))) (st .pre .0) in
     let most = plan-passed R (length block) (ok .0) .2 in
-    (generator-24, omega (arith, most, st .pre .1))
+    (most, omega (arith, most, st .pre .1))
 
 slice-reshare-prefix-send-bits : tie.Need-slice-reshare-prefix-send-bits
 unfolding blockBits
@@ -42,12 +44,12 @@ slice-reshare-prefix-send-bits c =
     let a = st .args in
     let R = now (a .profile) in
     let block = now (a .block) in
-    let ok = request-passed R (length block) (a .nl) (a .qm) (a .g .0) (a .g .0) (length (now (a .out))) (st .pre .0) in
+    let ok = request-passed R (length block) (a .terms) (a .g .0) (a .g .0) (length (now (a .out))) (st .pre .0) in
     let plan = c .before .before .before .before .plan-accepted in
     let attach = c .before .before .attach in
     let count : plan .result .bits ≡ blockBits (length block) = bits-is R (length block) (plan .result) (plan .ensures) (ok .0) in
     let most = plan-passed R (length block) (ok .0) .2 in
-    omega (arith, count, most, st .pre .1, attach .kept .1 .1 .1 .0)
+    omega (arith, count, most, st .pre .1, attach .kept .1 .0)
 
 slice-aggregate-send-bits : tie.Need-slice-aggregate-send-bits
 unfolding blockBits
@@ -56,12 +58,12 @@ slice-aggregate-send-bits c =
     let a = st .args in
     let R = now (a .profile) in
     let block = now (a .block) in
-    let ok = request-passed R (length block) (a .nl) (a .qm) (a .g .0) (a .g .0) (length (now (a .out))) (st .pre .0) in
+    let ok = request-passed R (length block) (a .terms) (a .g .0) (a .g .0) (length (now (a .out))) (st .pre .0) in
     let plan = c .before .before .before .before .before .plan-accepted in
     let attach = c .before .before .before .attach in
     let count : plan .result .bits ≡ blockBits (length block) = bits-is R (length block) (plan .result) (plan .ensures) (ok .0) in
     let most = plan-passed R (length block) (ok .0) .2 in
-    sym (length-take-le (plan .result .bits) (attach .last .1 .1 .1 .0) (omega (arith, count, most, st .pre .1, attach .kept .1 .1 .1 .0)))
+    sym (length-take-le (plan .result .bits) (attach .last .1 .0) (omega (arith, count, most, st .pre .1, attach .kept .1 .0)))
 
 send-bits-requires : tie.Need-send-bits-requires
 unfolding blockBits transport
@@ -70,15 +72,19 @@ send-bits-requires c κs =
     let a = st .args in
     let R = now (a .profile) in
     let block = now (a .block) in
-    let ok = request-passed R (length block) (a .nl) (a .qm) (a .g .0) (a .g .0) (length (now (a .out))) (st .pre .0) in
+    let ok = request-passed R (length block) (a .terms) (a .g .0) (a .g .0) (length (now (a .out))) (st .pre .0) in
     let plan = c .before .before .before .before .before .before .plan-accepted in
     let attach = c .before .before .before .before .attach in
     let count : plan .result .bits ≡ blockBits (length block) = bits-is R (length block) (plan .result) (plan .ensures) (ok .0) in
     let most = plan-passed R (length block) (ok .0) .2 in
-    let same : take (plan .result .bits) (attach .last .1 .1 .1 .0) ≡ transport block =
+    let same : take (plan .result .bits) (attach .last .1 .0) ≡ transport block =
     ap (take (plan .result .bits)) (attach .ensures) ∙ front-set (now (a .bits)) (transport block) (plan .result .bits) (length-transport block ∙ sym count) (omega (arith, count, most, st .pre .1)) in
     let some : 0 < plan .result .blocks = omega (arith, blocks-are R (length block) (plan .result) (plan .ensures) (ok .0), plan-cut R (length block) (ok .0) .some) in
-    (rw same (ready-transport R block (plan .result) (ok .0) (plan .ensures)), allocated (a .nl) (a .qm) (a .g .0) (plan .result .blocks) (ok .1) some, ok .2)
+    record {
+      ready = rw same (ready-transport R block (plan .result) (ok .0) (plan .ensures));
+      allocated = allocated (a .terms) (a .g .0) (plan .result .blocks) (ok .1) some;
+      room = ok .2;
+    }
 
 same-length : tie.Need-same-length
 same-length c = search needs
@@ -93,15 +99,15 @@ returns c =
     let a = st .args in
     let R = now (a .profile) in
     let block = now (a .block) in
-    let ok = request-passed R (length block) (a .nl) (a .qm) (a .g .0) (a .g .0) (length (now (a .out))) (st .pre .0) in
+    let ok = request-passed R (length block) (a .terms) (a .g .0) (a .g .0) (length (now (a .out))) (st .pre .0) in
     let plan = c .before .before .before .before .before .before .before .before .before .plan-accepted in
     let attach = c .before .before .before .before .before .before .before .attach in
     let count : plan .result .bits ≡ blockBits (length block) = bits-is R (length block) (plan .result) (plan .ensures) (ok .0) in
     let most = plan-passed R (length block) (ok .0) .2 in
-    let same : take (plan .result .bits) (attach .last .1 .1 .1 .0) ≡ transport block =
+    let same : take (plan .result .bits) (attach .last .1 .0) ≡ transport block =
     ap (take (plan .result .bits)) (attach .ensures) ∙ front-set (now (a .bits)) (transport block) (plan .result .bits) (length-transport block ∙ sym count) (omega (arith, count, most, st .pre .1)) in
     let sent = c .before .before .send-bits in
-    sent-whole R block (a .nl) (a .qm) (a .g .0) (now (a .out)) (sent .result) (sent .last .1 .1 .1 .1 .1 .1 .0) (st .pre .0) (rw (same, count) at (sent .ensures))
+    sent-whole R block (a .terms) (a .g .0) (now (a .out)) (sent .result) (sent .last .1 .1 .1 .1 .1 .0) (st .pre .0) (rw (same, count) at (sent .ensures))
 
 pub send-through-spec : {M : Type 1} → statement M
 send-through-spec =

@@ -14,11 +14,11 @@ word-number-requires c κs = search needs
 returns : tie.Need-returns
 returns c = checked-refused _ _ _ _ (c .before .word-number .ensures) (c .if1 .taken)
 
-kb-requires : tie.Need-kb-requires
-kb-requires c κs = word-taken _ _ _ (sym (c .before .word-number .ensures) ∙ c .if1 .left) .0
+rows-requires : tie.Need-rows-requires
+rows-requires c κs = word-taken _ _ _ (sym (c .before .word-number .ensures) ∙ c .if1 .left) .0
 
-m-requires : tie.Need-m-requires
-m-requires c κs = word-taken _ _ _ (sym (c .before .before .word-number .ensures) ∙ c .before .if1 .left) .0
+columns-requires : tie.Need-columns-requires
+columns-requires c κs = word-taken _ _ _ (sym (c .before .before .word-number .ensures) ∙ c .before .if1 .left) .0
 
 index-of-requires : tie.Need-index-of-requires
 index-of-requires c κs = word-taken _ _ _ (sym (c .before .before .before .word-number .ensures) ∙ c .before .before .if1 .left) .0
@@ -32,16 +32,15 @@ checks-requires : tie.Need-checks-requires
 checks-requires c κs =
     let taken = word-taken _ _ _ (sym (c .before .before .before .before .before .word-number .ensures) ∙ c .before .before .before .before .if1 .left) in
     let a = c .before .before .before .before .before .before .before .before .args in
-    let kb-is = c .before .before .before .kb .ensures .0 in
-    let m-is = c .before .before .m .ensures .0 in
+    let c-is = c .before .before .columns .ensures .0 in
     let table-is = table-read (now (a .profile)) (a .z) _ _ (c .table .ensures) (c .before .index-of .ensures) in
-    (shape-read _ _ (taken .0) (taken .1) _ _ kb-is m-is _ table-is, rw (kb-is, m-is) (taken .2))
+    (shape-read _ _ (taken .0) (taken .1) _ c-is _ _ table-is (c .before .before .before .rows .ensures .0), rw c-is (taken .2))
 
 returns-2 : tie.Need-returns-2
 returns-2 c =
     let a = c .before .before .before .before .before .before .before .before .before .args in
     let table-is = table-read (now (a .profile)) (a .z) _ _ (c .before .table .ensures) (c .before .before .index-of .ensures) in
-    let read = check-read _ _ _ _ _ table-is (c .before .before .before .before .kb .ensures .0) (c .before .before .before .m .ensures .0) (now (a .word)) (c .checks .ensures) in
+    let read = check-read _ _ _ _ _ table-is (c .before .before .before .columns .ensures .0) (c .before .before .before .before .rows .ensures .0) (now (a .word)) (c .checks .ensures) in
     checked-done _ _ _ _ (c .before .before .before .before .before .before .word-number .ensures) (c .before .before .before .before .before .if1 .left) _ read
 
 pub check-word-spec : {M : Type 1} → statement M
@@ -50,8 +49,8 @@ check-word-spec =
     (tie.spec
     word-number-requires
     returns
-    kb-requires
-    m-requires
+    rows-requires
+    columns-requires
     index-of-requires
     table-requires
     checks-requires

@@ -15,36 +15,30 @@ block-number-requires c κs = search needs
 returns : tie.Need-returns
 returns c = coded-refused _ _ _ _ _ (c .before .block-number .ensures) (c .if1 .taken)
 
-kb-requires : tie.Need-kb-requires
-kb-requires c κs = block-taken _ _ _ _ (sym (c .before .block-number .ensures) ∙ c .if1 .left) .judged
-
-m-requires : tie.Need-m-requires
-m-requires c κs = block-taken _ _ _ _ (sym (c .before .before .block-number .ensures) ∙ c .before .if1 .left) .judged
-
-add-n : tie.Need-add-n
-add-n c = search needs
+columns-requires : tie.Need-columns-requires
+columns-requires c κs = block-taken _ _ _ _ (sym (c .before .block-number .ensures) ∙ c .if1 .left) .judged
 
 mul-n : tie.Need-mul-n
 mul-n c =
-    let taken = block-taken _ _ _ _ (sym (c .before .before .before .block-number .ensures) ∙ c .before .before .if1 .left) in
-    omega (arith, places-most _ _ (taken .judged) (taken .size) _ _ (c .before .kb .ensures .0) (c .m .ensures .0))
+    let taken = block-taken _ _ _ _ (sym (c .before .before .block-number .ensures) ∙ c .before .if1 .left) in
+    omega (arith, places-most _ _ (taken .judged) (taken .size) _ (c .columns .ensures .0))
 
 array-borrow-prefix-word : tie.Need-array-borrow-prefix-word
 array-borrow-prefix-word c =
-    let taken = block-taken _ _ _ _ (sym (c .before .before .before .block-number .ensures) ∙ c .before .before .if1 .left) in
-    places-most _ _ (taken .judged) (taken .size) _ _ (c .before .kb .ensures .0) (c .m .ensures .0)
+    let taken = block-taken _ _ _ _ (sym (c .before .before .block-number .ensures) ∙ c .before .if1 .left) in
+    places-most _ _ (taken .judged) (taken .size) _ (c .columns .ensures .0)
 
 slice-aggregate-code-in : tie.Need-slice-aggregate-code-in
 slice-aggregate-code-in c =
-    let taken = block-taken _ _ _ _ (sym (c .before .before .before .before .block-number .ensures) ∙ c .before .before .before .if1 .left) in
-    sym (length-take-le _ (replicate 2592 0) (places-most _ _ (taken .judged) (taken .size) _ _ (c .before .before .kb .ensures .0) (c .before .m .ensures .0)))
+    let taken = block-taken _ _ _ _ (sym (c .before .before .before .block-number .ensures) ∙ c .before .before .if1 .left) in
+    sym (length-take-le _ (replicate 2592 0) (places-most _ _ (taken .judged) (taken .size) _ (c .before .columns .ensures .0)))
 
 code-in-requires : tie.Need-code-in-requires
 code-in-requires c κs =
-    let e = sym (c .before .before .before .before .before .block-number .ensures) ∙ c .before .before .before .before .if1 .left in
+    let e = sym (c .before .before .before .before .block-number .ensures) ∙ c .before .before .before .if1 .left in
     let taken = block-taken _ _ _ _ e in
-    let columns = places-most _ _ (taken .judged) (taken .size) _ _ (c .before .before .before .kb .ensures .0) (c .before .before .m .ensures .0) in
-    (e, rw (sym (c .before .before .before .kb .ensures .0), sym (c .before .before .m .ensures .0)) (length-take-le _ (replicate 2592 0) columns))
+    let most = places-most _ _ (taken .judged) (taken .size) _ (c .before .before .columns .ensures .0) in
+    (e, rw (sym (c .before .before .columns .ensures .0)) (length-take-le _ (replicate 2592 0) most))
 
 same-length : tie.Need-same-length
 same-length c = search needs
@@ -58,9 +52,7 @@ code-block-spec =
     (tie.spec
     block-number-requires
     returns
-    kb-requires
-    m-requires
-    add-n
+    columns-requires
     mul-n
     array-borrow-prefix-word
     slice-aggregate-code-in

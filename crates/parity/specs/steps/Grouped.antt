@@ -1,12 +1,13 @@
 -- The parity check by groups of z places: what each entry of a table adds to a row's sum, and the staircase solved from the front.
 use mathlib.Core.Path.{_≡_}
-use mathlib.Core.Bool.{cond}
+use mathlib.Core.Bool.{Bool, cond}
 use mathlib.Core.List.{List}
 use Prim.Native.Nat.{ℕ, suc, _+_, _*_, _%_, _≤_, _<_}
 use lib.Dec.{eqb}
 use lib.ListN.{length, getD}
 use Rattle.bits.specs.Ranges.{sumBelow}
 use Rattle.profile.specs.Record.{entry, empty}
+use Rattle.parity.specs.Matrix.{checks}
 
 -- the bit at a place as it is read without a test, by its lowest digit: that of the mark 2 is 0
 unfoldable pub lowBit : List ℕ → ℕ → ℕ
@@ -29,23 +30,34 @@ unfoldable pub stack : List ℕ → ℕ → ℕ → List ℕ → ℕ → ℕ →
 stack T columns z w n r u = sumBelow r (λ i. rowPart T columns z w n i u)
 
 -- column kb is the sum of all rows over the systematic columns, and column kb + n that of the rows before n over columns 0 .. kb
-pub record Solved (T : List ℕ) (kb m z : ℕ) (w : List ℕ) : Type 0 where
-  pub first : (u : ℕ) → u < z → lowBit w (kb * z + u) ≡ stack T (kb + m) z w kb m u % 2
-  pub next : (n u : ℕ) → 0 < n → n < m → u < z → lowBit w ((kb + n) * z + u) ≡ stack T (kb + m) z w (suc kb) n u % 2
+pub record Solved (T : List ℕ) (kb m columns z : ℕ) (w : List ℕ) : Type 0 where
+  pub first : (u : ℕ) → u < z → lowBit w (kb * z + u) ≡ stack T columns z w kb m u % 2
+  pub next : (n u : ℕ) → 0 < n → n < m → u < z → lowBit w ((kb + n) * z + u) ≡ stack T columns z w (suc kb) n u % 2
 
--- a word of kb + m groups of z places that has the places of sys in front, then bits, and solves the staircase
-pub record Solution (T : List ℕ) (kb m z : ℕ) (sys w : List ℕ) : Type 0 where
-  pub size : length w ≡ (kb + m) * z
+-- a word of `columns` groups of z places that has the places of sys in front, then bits, and solves the staircase
+pub record Solution (T : List ℕ) (kb m columns z : ℕ) (sys w : List ℕ) : Type 0 where
+  pub size : length w ≡ columns * z
   pub front : (p : ℕ) → p < kb * z → getD w p 0 ≡ getD sys p 0
   pub bits : (p : ℕ) → kb * z ≤ p → getD w p 0 < 2
-  pub solved : Solved T kb m z w
+  pub solved : Solved T kb m columns z w
 
--- a table of m rows and `columns` columns that goes with z, within the sizes of document 01
-pub record Shape (T : List ℕ) (m columns z : ℕ) : Type 0 where
-  pub size : length T ≡ m * columns
+-- a solution w that was made of the places of sys, where r says whether it checks
+pub record Attempted (T : List ℕ) (kb m columns z : ℕ) (sys w : List ℕ) (r : Bool) : Type 0 where
+  pub tried : r ≡ checks T m columns z w
+  pub solution : Solution T kb m columns z sys w
+
+-- a table of so many rows and columns that goes with z, within the sizes of document 01
+pub record Shape (T : List ℕ) (rows columns z : ℕ) : Type 0 where
+  pub size : length T ≡ rows * columns
   pub shifts : (k : ℕ) → (getD T k 0 ≡ empty → ⊥) → getD T k 0 < z
   pub z-some : 0 < z
   pub z-most : z ≤ 81
-  pub m-some : 0 < m
-  pub m-most : m ≤ 12
+  pub rows-some : 0 < rows
+  pub rows-most : rows ≤ 12
   pub columns-most : columns ≤ 32
+
+-- and what coding asks: all columns past kb are the staircase's m, and the word w is as long as the columns say
+pub record Codable (T : List ℕ) (kb m columns z : ℕ) (w : List ℕ) : Type 0 where
+  pub shape : Shape T m columns z
+  pub wide : columns ≡ kb + m
+  pub long : length w ≡ columns * z

@@ -8,7 +8,7 @@ use lib.ListN.{length, getD}
 use Rattle.bits.specs.Bits.{AreBits}
 use Rattle.bits.specs.Ranges.{sumBelow}
 use Rattle.profile.specs.Record.{empty}
-use Rattle.parity.specs.steps.Grouped.{lowBit, rowPart}
+use Rattle.parity.specs.steps.Grouped.{lowBit, rowPart, Shape}
 
 -- b is a, but that the n places from `at` on hold f 0 .. f (n − 1)
 pub record Run (n : ℕ) (f : ℕ → ℕ) (a : List ℕ) (at : ℕ) (b : List ℕ) : Type 0 where
@@ -33,18 +33,24 @@ pub record Doubled (w : List ℕ) (base z : ℕ) (g : List ℕ) : Type 0 where
   pub bits : AreBits g
   pub at : (k : ℕ) → k < z + z → getD g k 0 ≡ lowBit w (base + k % z)
 
--- s holds the sums of m rows, z places each: the rows before r over the first n + 1 columns of the word, the others over the first n
-pub record Sums (T : List ℕ) (m columns z : ℕ) (w : List ℕ) (n r : ℕ) (s : List ℕ) : Type 0 where
-  pub size : length s ≡ m * z
+-- s holds the sums of all rows, z places each: the rows before r over the first n + 1 columns of the word, the others over the first n
+pub record Sums (T : List ℕ) (rows columns z : ℕ) (w : List ℕ) (n r : ℕ) (s : List ℕ) : Type 0 where
+  pub size : length s ≡ rows * z
   pub bits : AreBits s
   pub done : (i u : ℕ) → i < r → u < z → getD s (i * z + u) 0 ≡ rowPart T columns z w (suc n) i u % 2
-  pub left : (i u : ℕ) → r ≤ i → i < m → u < z → getD s (i * z + u) 0 ≡ rowPart T columns z w n i u % 2
+  pub left : (i u : ℕ) → r ≤ i → i < rows → u < z → getD s (i * z + u) 0 ≡ rowPart T columns z w n i u % 2
+
+-- s holds the sums of a table's rows over the first n columns of a word that is as long as the table is wide
+pub record Adding (T : List ℕ) (rows columns z : ℕ) (w : List ℕ) (n : ℕ) (s : List ℕ) : Type 0 where
+  pub shape : Shape T rows columns z
+  pub long : length w ≡ columns * z
+  pub sums : Sums T rows columns z w n 0 s
 
 -- place u of the rows 0 .. r − 1 of s together
 unfoldable pub down : List ℕ → ℕ → ℕ → ℕ → ℕ
 down s z r u = sumBelow r (λ i. getD s (i * z + u) 0)
 
--- as bits: all m rows, whatever the column; the rows down to that of step j
+-- as bits: all m rows of the staircase, whatever the column; the rows down to that of step j
 unfoldable pub allRows : List ℕ → ℕ → ℕ → ℕ → ℕ → ℕ
 allRows s z m j u = down s z m u % 2
 
@@ -56,6 +62,14 @@ pub record Groups (z n : ℕ) (f : ℕ → ℕ → ℕ) (a : List ℕ) (at : ℕ
   pub len : length b ≡ length a
   pub inside : (j u : ℕ) → j < n → u < z → getD b (at + j * z + u) 0 ≡ f j u
   pub below : (p : ℕ) → p < at → getD b p 0 ≡ getD a p 0
+
+-- s holds the bits of m rows, z places each, few enough of both
+pub record Stacked (s : List ℕ) (m z : ℕ) : Type 0 where
+  pub size : m * z ≤ length s
+  pub bits : AreBits s
+  pub m-some : 0 < m
+  pub m-most : m ≤ 12
+  pub z-most : z ≤ 81
 
 -- g holds, in its first z places, the sums of the rows 0 .. r − 1 of s
 pub record Together (s : List ℕ) (z r : ℕ) (g : List ℕ) : Type 0 where

@@ -5,8 +5,8 @@ use mathlib.Core.List.{List}
 use Prim.Native.Nat.{ℕ, _+_, _*_, _≤_}
 use lib.Dec.{eqb, leb}
 use lib.ListN.{length}
-use Rattle.bits.specs.Ranges.{allBelow}
-use Rattle.profile.specs.Record.{t, z, offset, within, headerRight, rises, offsetDue, endsRight}
+use Rattle.bits.specs.Ranges.{allBelow, within}
+use Rattle.profile.specs.Record.{kb, m, t, z, offset, columns, table, headerRight, rises, offsetDue, endsRight}
 
 -- ---- well formed in the code's order, from the front, so that what is read is there
 
@@ -21,9 +21,15 @@ sizeRight R i = within 1 81 (z R i) && rises R i && eqb (offset R i) (offsetDue 
 unfoldable pub shapeRight : List ℕ → Bool
 shapeRight R = frontRight R && endsRight R && allBelow (t R) (sizeRight R)
 
--- a table of the size that its columns and rows give, few enough of both
-pub record Sized (T : List ℕ) (kb m : ℕ) : Type 0 where
-  pub size : length T ≡ m * (kb + m)
-  pub kb-high : kb ≤ 20
-  pub m-low : 3 ≤ m
-  pub m-high : m ≤ 12
+-- a table that is large enough for the staircase, with few enough columns
+pub record Sized (T : List ℕ) (kb' m' columns' : ℕ) : Type 0 where
+  pub size : m' * columns' ≤ length T
+  pub wide : kb' + m' ≤ columns'
+  pub columns-high : columns' ≤ 32
+  pub m-low : 3 ≤ m'
+  pub m-high : m' ≤ 12
+
+-- T is table i of the record, and so large enough
+pub record TableAt (R : List ℕ) (i : ℕ) (T : List ℕ) : Type 0 where
+  pub same : T ≡ table R i
+  pub sized : Sized T (kb R) (m R) (columns R)

@@ -1,4 +1,5 @@
--- The staircase as the code walks it: each row between is tried as the middle one, and then row by row. T is a table of m rows and kb + m columns.
+-- The staircase as the code walks it: each row between is tried as the middle one, and then row by row. T is a table of
+-- `columns` columns.
 use mathlib.Core.Bool.{Bool, cond, not, _&&_, _||_}
 use mathlib.Core.List.{List}
 use Prim.Native.Nat.{ℕ, suc, _+_, _-_}
@@ -13,15 +14,15 @@ firstDue m outer middle row = cond (eqb row middle) 0 (cond (eqb row 0 || eqb (s
 
 -- column kb + j + 1 holds in a row what it is due
 unfoldable pub nextRight : List ℕ → ℕ → ℕ → ℕ → ℕ → Bool
-nextRight T kb m row j = eqb (entry T (kb + m) row (kb + suc j)) (nextDue (suc j) row)
+nextRight T kb columns row j = eqb (entry T columns row (kb + suc j)) (nextDue (suc j) row)
 
 -- a row holds what it is due in column kb and in the columns after it
-unfoldable pub rowRight : List ℕ → ℕ → ℕ → ℕ → ℕ → Bool
-rowRight T kb m middle row =
-    eqb (entry T (kb + m) row kb) (firstDue m (entry T (kb + m) 0 kb) middle row) && allBelow (m - 1) (nextRight T kb m row)
+unfoldable pub rowRight : List ℕ → ℕ → ℕ → ℕ → ℕ → ℕ → Bool
+rowRight T kb m columns middle row =
+    eqb (entry T columns row kb) (firstDue m (entry T columns 0 kb) middle row) && allBelow (m - 1) (nextRight T kb columns row)
 
-unfoldable pub stairsAt : List ℕ → ℕ → ℕ → ℕ → Bool
-stairsAt T kb m middle = leb 1 middle && ltb (suc middle) m && allBelow m (rowRight T kb m middle)
+unfoldable pub stairsAt : List ℕ → ℕ → ℕ → ℕ → ℕ → Bool
+stairsAt T kb m columns middle = leb 1 middle && ltb (suc middle) m && allBelow m (rowRight T kb m columns middle)
 
-unfoldable pub walked : List ℕ → ℕ → ℕ → Bool
-walked T kb m = not (eqb (entry T (kb + m) 0 kb) empty) && anyBelow m (stairsAt T kb m)
+unfoldable pub walked : List ℕ → ℕ → ℕ → ℕ → Bool
+walked T kb m columns = not (eqb (entry T columns 0 kb) empty) && anyBelow m (stairsAt T kb m columns)

@@ -5,25 +5,26 @@ use Prim.Native.Nat.{ℕ, _<_}
 use borrow.Author.Needs.{needs}
 use lib.ListN.{length, getD, drop}
 use Rattle.bits.specs.Bits.{AreBits}
+use Rattle.bits.specs.declared.count.Terms.{Terms}
 use Rattle.bits.specs.declared.number.Written.{Written}
 use Rattle.bits.proofs.Answers.{when-done}
 use Rattle.bits.proofs.Lists.{bits-append, bits-drop, bits-zeros}
-use Rattle.profile.specs.Plan.{blockBits}
-use Rattle.coding.specs.Transport.{transport}
+use Rattle.cutting.specs.Plan.{blockBits}
+use Rattle.cutting.specs.Transport.{transport}
+use Rattle.cutting.proofs.Transported.{transport-bits}
 use Rattle.coding.specs.Joining.{radioBits}
 use Rattle.coding.specs.Promises.{sendNumber, Sent}
 use Rattle.coding.proofs.RoundTrip.{sent-bits}
-use Rattle.coding.proofs.Transported.{transport-bits}
 use Rattle.sample.proofs.main.Statement.{statement}
 use Rattle.sample.proofs.main.Tie as tie
 
-left-bits : {R block : List ℕ} {nl qm g : ℕ} {out : List ℕ} {r : Written} {out' : List ℕ} → Sent R block nl qm g out r out' → r .number ≡ 0 → AreBits out
+left-bits : {R block : List ℕ} {terms : Terms} {g : ℕ} {out : List ℕ} {r : Written} {out' : List ℕ} → Sent R block terms g out r out' → r .number ≡ 0 → AreBits out
     → AreBits out'
-left-bits {R} {block} {nl} {qm} {g} {out} s done h k =
-    let sent = radioBits R (blockBits (length block)) (transport block) nl qm g in
-    let left = when-done (sendNumber R block nl qm g (length out)) (sent ++ drop g out) out (sym (s .number) ∙ done) in
+left-bits {R} {block} {terms} {g} {out} s done h k =
+    let sent = radioBits R (blockBits (length block)) (transport block) terms g in
+    let left = when-done (sendNumber R block terms g (length out)) (sent ++ drop g out) out (sym (s .number) ∙ done) in
     subst (λ (l : List ℕ). getD l k 0 < 2) (sym (s .output ∙ left))
-    (bits-append sent (drop g out) (sent-bits R (blockBits (length block)) (transport block) nl qm g (transport-bits block)) (bits-drop g out h) k)
+    (bits-append sent (drop g out) (sent-bits R (blockBits (length block)) (transport block) terms g (transport-bits block)) (bits-drop g out h) k)
 
 slice-aggregate-send : tie.Need-slice-aggregate-send
 slice-aggregate-send c = search needs

@@ -1,24 +1,26 @@
 //! Lines that are no request, or only just one.
 
-use super::kinds::{Kind, Word};
 use super::write::{self, Words};
+use crate::form::Word;
+use crate::kinds::Kind;
 use crate::random::Random;
 
 pub fn line(kind: &Kind, random: &mut Random) -> Vec<u8> {
-    match random.below(9) {
+    match random.below(10) {
         0 => no_answer(kind, random),
         1 => other_name(kind, random),
         2 => other_count_of_words(kind, random),
         3 => doubled_space(kind, random),
         4..=5 => words_at_the_edge(kind, random),
         6 => any_characters(kind, random),
+        7 => optional_words(kind, random),
         _ => one_change(kind, random),
     }
 }
 
 /// Blank lines and comments.
 fn no_answer(kind: &Kind, random: &mut Random) -> Vec<u8> {
-    let request = write::line(&(kind.done)(random));
+    let request = write::line(&kind.done(random));
     let fronts: [&[u8]; 8] = [
         b"",
         b" ",
@@ -57,16 +59,16 @@ fn other_name(kind: &Kind, random: &mut Random) -> Vec<u8> {
     if random.one_in(4) {
         return name;
     }
-    let mut words = (kind.done)(random);
+    let mut words = kind.done(random);
     words[0] = name;
     write::line(&words)
 }
 
 fn other_count_of_words(kind: &Kind, random: &mut Random) -> Vec<u8> {
-    let mut words = (kind.done)(random);
+    let mut words = kind.done(random);
     match random.below(4) {
-        0 => words.truncate(1 + random.below(kind.words.len())),
-        1 => drop(words.remove(1 + random.below(kind.words.len()))),
+        0 => words.truncate(1 + random.below(kind.form.words.len())),
+        1 => drop(words.remove(1 + random.below(kind.form.words.len()))),
         2 => words.push(words[words.len() - 1].clone()),
         _ => {
             let more: [&[u8]; 6] = [b"1", b"-", b"q", b"1 1", b"x: #", b"#1 1"];
@@ -83,7 +85,7 @@ fn other_count_of_words(kind: &Kind, random: &mut Random) -> Vec<u8> {
 
 /// One of the spaces of a request written twice or more, or spaces in front.
 fn doubled_space(kind: &Kind, random: &mut Random) -> Vec<u8> {
-    let mut words = (kind.done)(random);
+    let mut words = kind.done(random);
     let place = random.below(words.len());
     let mut spaces = vec![b' '; 1 + random.below(3)];
     spaces.append(&mut words[place]);
@@ -93,10 +95,10 @@ fn doubled_space(kind: &Kind, random: &mut Random) -> Vec<u8> {
 
 /// One word at the edge of what it may be, or two, so that the order of the errors is compared.
 fn words_at_the_edge(kind: &Kind, random: &mut Random) -> Vec<u8> {
-    let mut words = random.pick(&[kind.done, kind.done, kind.refused])(random);
+    let mut words = random.pick(&[Kind::done, Kind::done, Kind::refused])(kind, random);
     for _ in 0..random.pick(&[1, 1, 2]) {
-        let place = random.below(kind.words.len());
-        words[1 + place] = word_at_the_edge(kind.words[place], random);
+        let place = random.below(kind.form.words.len());
+        words[1 + place] = word_at_the_edge(kind.form.words[place], random);
     }
     write::line(&words)
 }
@@ -106,7 +108,7 @@ fn word_at_the_edge(word: Word, random: &mut Random) -> Vec<u8> {
     let bits = bits_at_the_edge(random);
     let hex = hex_at_the_edge(random);
     let own = match word {
-        Word::Number => number,
+        Word::Number | Word::Short | Word::Length => number,
         Word::Bits => bits,
         Word::Hex(_) => hex,
     };
@@ -209,13 +211,41 @@ fn hex_at_the_edge(random: &mut Random) -> &'static [u8] {
     random.pick(&words)
 }
 
+/// Words that hold a `=`, behind a request, in the middle of it, or in the place of its last words.
+fn optional_words(kind: &Kind, random: &mut Random) -> Vec<u8> {
+    let mut words = kind.done(random);
+    if random.one_in(4) {
+        words.truncate(1 + random.below(words.len()));
+    }
+    for _ in 0..random.pick(&[1, 1, 2, 3]) {
+        let last = words.len();
+        let anywhere = random.below(last + 1);
+        let place = random.pick(&[last, last, last, anywhere]);
+        words.insert(place, optional_word(random));
+    }
+    write::line(&words)
+}
+
+/// A name that some kind may have, or one that none has, and what it may or may not hold.
+fn optional_word(random: &mut Random) -> Vec<u8> {
+    let names: [&[u8]; 8] = [b"rv", b"ed", b"type", b"by", b"rv", b"RV", b"q", b""];
+    let name = random.pick(&names);
+    let words: [&[u8]; 9] = [
+        b"0", b"1", b"00", b"quick", b"plain", b"Plain", b"", b"=", b"1=1",
+    ];
+    let number = number_at_the_edge(random);
+    let held = random.pick(&words);
+    let held = random.pick(&[held, held, held, number]);
+    [name, b"=", held].concat()
+}
+
 /// Short lines out of the characters that mean something.
 fn any_characters(kind: &Kind, random: &mut Random) -> Vec<u8> {
     let length = random.below(16);
     let tail: Vec<u8> = (0..length)
-        .map(|_| random.pick(b"  ##crc0128x:-af"))
+        .map(|_| random.pick(b"  ##crc0128x:-af="))
         .collect();
-    let mut words = (kind.done)(random);
+    let mut words = kind.done(random);
     words.truncate(random.below(words.len() + 1));
     let mut line = write::line(&words);
     if random.one_in(2) {
@@ -226,11 +256,11 @@ fn any_characters(kind: &Kind, random: &mut Random) -> Vec<u8> {
 
 /// A good request with one octet put in, taken out or changed.
 fn one_change(kind: &Kind, random: &mut Random) -> Vec<u8> {
-    let words: Words = (kind.done)(random);
+    let words: Words = kind.done(random);
     let mut line = write::line(&words);
     let place = random.below(line.len());
     let any = any_but_newline(random);
-    let meaning = random.pick(b" #0123456789abcdefgxX:-");
+    let meaning = random.pick(b" #0123456789abcdefgxX:-=");
     let octet = random.pick(&[any, meaning]);
     match random.below(3) {
         0 => line.insert(place, octet),
@@ -245,5 +275,27 @@ fn any_but_newline(random: &mut Random) -> u8 {
     match random.octet() {
         b'\n' => b'\r',
         octet => octet,
+    }
+}
+
+#[cfg(test)]
+mod tests {
+    use super::optional_words;
+    use crate::answer::answer;
+    use crate::kinds::KINDS;
+    use crate::random::Random;
+
+    #[test]
+    fn optional_words_are_errors_until_a_kind_has_them() {
+        let mut random = Random::new(1);
+        for kind in KINDS.iter().filter(|kind| kind.form.options.is_empty()) {
+            let lines: Vec<_> = (0..100)
+                .map(|_| optional_words(kind, &mut random))
+                .collect();
+            let answers: Vec<_> = lines.iter().filter_map(|line| answer(line)).collect();
+            assert!(answers.iter().all(|text| text.starts_with("error ")));
+            let words = answers.iter().filter(|text| *text == "error words");
+            assert!(words.count() > 70, "{}", kind.name);
+        }
     }
 }

@@ -1,12 +1,10 @@
 //! Well-formed `crc` requests: ones that are done, and ones that are refused with 8 or 12.
 
-use super::kinds::{Kind, Word};
+use super::makers::Makers;
 use super::write::{self, Words};
 use crate::random::Random;
 
-pub const CRC: Kind = Kind {
-    name: "crc",
-    words: &[Word::Number, Word::Bits],
+pub const CRC: Makers = Makers {
     done,
     refused,
     large: &[],
@@ -34,8 +32,7 @@ fn refused(random: &mut Random) -> Words {
 }
 
 fn request(width: u64, bits: &[u8], random: &mut Random) -> Words {
-    let words = [write::number(width, random), write::bits(bits, random)];
-    write::request(CRC.name, words)
+    vec![write::number(width, random), write::bits(bits, random)]
 }
 
 /// Single bits of many lengths.

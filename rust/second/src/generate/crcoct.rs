@@ -1,14 +1,11 @@
 //! Well-formed `crcoct` requests: ones that are done, and ones that are refused with 8.
 
 use super::crc::{other_width, WIDTHS};
-use super::kinds::{Kind, Word};
+use super::makers::Makers;
 use super::write::{self, Words};
 use crate::random::Random;
-use crate::words::SHELF_ROOM;
 
-pub const CRCOCT: Kind = Kind {
-    name: "crcoct",
-    words: &[Word::Number, Word::Hex(SHELF_ROOM)],
+pub const CRCOCT: Makers = Makers {
     done: |random| {
         let width = random.pick(&WIDTHS);
         request(width, random)
@@ -22,8 +19,7 @@ pub const CRCOCT: Kind = Kind {
 
 fn request(width: u64, random: &mut Random) -> Words {
     let octets = octets(random);
-    let words = [write::number(width, random), write::hex(&octets, random)];
-    write::request(CRCOCT.name, words)
+    vec![write::number(width, random), write::hex(&octets, random)]
 }
 
 /// Octets of many lengths, any of them, or with a single bit each, so that an order of bits is seen.

@@ -1,23 +1,15 @@
 //! Requests `lookup`, `hsend` and `hrecv`: records found on either shelf, and each refusal.
 
-use super::kinds::{Kind, Word};
+use super::makers::Makers;
 use super::records::good;
 use super::recv::{self, Receiving};
 use super::send::{self, Sending};
 use super::shelf::{of_length, refused_record, Shelves};
-use super::write::{self, Words};
+use super::write::Words;
 use crate::random::Random;
 use crate::samples::TOY;
-use crate::words::{BLOCK_ROOM, SHELF_ROOM};
 
-pub const LOOKUP: Kind = Kind {
-    name: "lookup",
-    words: &[
-        Word::Hex(SHELF_ROOM),
-        Word::Hex(SHELF_ROOM),
-        Word::Number,
-        Word::Number,
-    ],
+pub const LOOKUP: Makers = Makers {
     done: |random| {
         let octets = send::octets(random.pick(&[0, 1, 5, 20]), random);
         lookup(&Shelves::with(&octets, random), random)
@@ -36,19 +28,7 @@ pub const LOOKUP: Kind = Kind {
     ],
 };
 
-pub const HSEND: Kind = Kind {
-    name: "hsend",
-    words: &[
-        Word::Hex(SHELF_ROOM),
-        Word::Hex(SHELF_ROOM),
-        Word::Number,
-        Word::Number,
-        Word::Hex(BLOCK_ROOM),
-        Word::Number,
-        Word::Number,
-        Word::Number,
-        Word::Number,
-    ],
+pub const HSEND: Makers = Makers {
     done: |random| {
         let draft = good(random);
         let sending = Sending::drawn(&draft, random);
@@ -61,19 +41,7 @@ pub const HSEND: Kind = Kind {
     large: &[],
 };
 
-pub const HRECV: Kind = Kind {
-    name: "hrecv",
-    words: &[
-        Word::Hex(SHELF_ROOM),
-        Word::Hex(SHELF_ROOM),
-        Word::Number,
-        Word::Number,
-        Word::Number,
-        Word::Number,
-        Word::Number,
-        Word::Bits,
-        Word::Number,
-    ],
+pub const HRECV: Makers = Makers {
     done: |random| {
         let draft = good(random);
         let receiving = Receiving::drawn(&draft, random);
@@ -109,15 +77,13 @@ fn on_the_other_side(mut shelves: Shelves) -> Shelves {
 }
 
 fn lookup(shelves: &Shelves, random: &mut Random) -> Words {
-    write::request(LOOKUP.name, shelves.words(random))
+    shelves.words(random)
 }
 
 fn hsend(shelves: &Shelves, sending: &Sending, random: &mut Random) -> Words {
-    let words = [shelves.words(random), sending.words(random)].concat();
-    write::request(HSEND.name, words)
+    [shelves.words(random), sending.words(random)].concat()
 }
 
 fn hrecv(shelves: &Shelves, receiving: &Receiving, random: &mut Random) -> Words {
-    let words = [shelves.words(random), receiving.words(random)].concat();
-    write::request(HRECV.name, words)
+    [shelves.words(random), receiving.words(random)].concat()
 }

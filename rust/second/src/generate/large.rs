@@ -1,7 +1,9 @@
 //! Lines at and beyond the room that a line or a word has.
 
-use super::kinds::{Kind, Maker, Word};
+use super::makers::Maker;
 use super::write;
+use crate::form::Word;
+use crate::kinds::Kind;
 use crate::lines::LINE_ROOM;
 use crate::random::Random;
 use crate::words::BITS_ROOM;
@@ -61,11 +63,11 @@ pub fn line(kinds: &[&Kind], turn: u64, random: &mut Random) -> Vec<u8> {
     match long {
         Long::Line(make) => make(kind, random),
         Long::Word(place, make) => {
-            let mut words = (kind.done)(random);
-            words[1 + place] = make(kind.words[place], random);
+            let mut words = kind.done(random);
+            words[1 + place] = make(kind.form.words[place], random);
             write::line(&words)
         }
-        Long::Request(make) => write::line(&make(random)),
+        Long::Request(make) => write::line(&kind.request(make, random)),
     }
 }
 
@@ -81,10 +83,11 @@ fn all<'kinds>(kinds: &[&'kinds Kind]) -> Vec<(&'kinds Kind, Long)> {
 
 fn of_kind(kind: &Kind) -> Vec<Long> {
     let lines = LINES.iter().map(|&make| Long::Line(make));
-    let requests = kind.large.iter().map(|&make| Long::Request(make));
-    let words = kind.words.iter().enumerate().flat_map(|(place, word)| {
+    let requests = kind.makers.large.iter().map(|&make| Long::Request(make));
+    let places = kind.form.words.iter().enumerate();
+    let words = places.flat_map(|(place, word)| {
         let makers = match word {
-            Word::Number => &NUMBERS[..],
+            Word::Number | Word::Short | Word::Length => &NUMBERS[..],
             Word::Bits => &BITS,
             Word::Hex(_) => &OCTETS,
         };
@@ -94,7 +97,7 @@ fn of_kind(kind: &Kind) -> Vec<Long> {
 }
 
 fn done(kind: &Kind, random: &mut Random) -> Vec<u8> {
-    write::line(&(kind.done)(random))
+    write::line(&kind.done(random))
 }
 
 fn digits(count: usize, random: &mut Random) -> Vec<u8> {
@@ -110,7 +113,7 @@ fn bits_as_pairs(count: usize, end: &[u8], random: &mut Random) -> Vec<u8> {
 fn hex(word: Word, more: usize, end: &[u8], random: &mut Random) -> Vec<u8> {
     let room = match word {
         Word::Hex(room) => room,
-        Word::Number | Word::Bits => BITS_ROOM,
+        _ => BITS_ROOM,
     };
     let octets: Vec<u8> = (0..room + more).map(|_| random.octet()).collect();
     [&write::hex(&octets, random), end].concat()
@@ -134,7 +137,7 @@ fn beyond_any_buffer(kind: &Kind, random: &mut Random) -> Vec<u8> {
 mod tests {
     use super::{all, line};
     use crate::answer::answer;
-    use crate::generate::kinds::{named, Kind, KINDS};
+    use crate::kinds::{named, Kind, KINDS};
     use crate::lines::LINE_ROOM;
     use crate::random::Random;
 
@@ -148,7 +151,7 @@ mod tests {
 
     #[test]
     fn lines_of_the_full_room_and_beyond_are_among_them() {
-        let lines = lines(&[named("crc").unwrap()], 3);
+        let lines = lines(&[named(b"crc").unwrap()], 3);
         for length in [LINE_ROOM, LINE_ROOM + 1] {
             assert!(lines.iter().any(|line| line.len() == length));
         }

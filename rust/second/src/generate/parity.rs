@@ -2,21 +2,13 @@
 //! not, and each refusal at its boundary.
 
 use super::crc::{bits, spoil};
-use super::kinds::{Kind, Word};
+use super::makers::Makers;
 use super::records::{bad, good};
 use super::write::{self, Words};
 use crate::parity;
 use crate::random::Random;
-use crate::words::SHELF_ROOM;
 
-pub const ENCODE: Kind = Kind {
-    name: "encode",
-    words: &[
-        Word::Hex(SHELF_ROOM),
-        Word::Number,
-        Word::Bits,
-        Word::Number,
-    ],
+pub const ENCODE: Makers = Makers {
     done: |random| {
         let block = Block::drawn(random);
         let more = random.pick(&[0, 0, 1, 100]);
@@ -26,9 +18,7 @@ pub const ENCODE: Kind = Kind {
     large: &[],
 };
 
-pub const CHECK: Kind = Kind {
-    name: "check",
-    words: &[Word::Hex(SHELF_ROOM), Word::Number, Word::Bits],
+pub const CHECK: Makers = Makers {
     done: |random| {
         let word = word(random);
         check(&word, random)
@@ -79,22 +69,20 @@ pub fn mark(places: &mut [u8], random: &mut Random) {
 }
 
 fn encode(block: &Block, length: usize, random: &mut Random) -> Words {
-    let words = [
+    vec![
         write::hex(&block.record, random),
         write::number(block.z, random),
         write::bits(&block.places, random),
         write::count(length, random),
-    ];
-    write::request(ENCODE.name, words)
+    ]
 }
 
 fn check(word: &Block, random: &mut Random) -> Words {
-    let words = [
+    vec![
         write::hex(&word.record, random),
         write::number(word.z, random),
         write::bits(&word.places, random),
-    ];
-    write::request(CHECK.name, words)
+    ]
 }
 
 /// A word that checks, one with one bit changed, or any bits.

@@ -1,24 +1,19 @@
 //! Requests `profile` and `plan`: records good and bad, and lengths about the places where the
 //! plan changes.
 
-use super::kinds::{Kind, Word};
+use super::makers::Makers;
 use super::records::{bad, good};
 use super::write::{self, Words};
 use crate::draft::Draft;
 use crate::random::Random;
-use crate::words::SHELF_ROOM;
 
-pub const PROFILE: Kind = Kind {
-    name: "profile",
-    words: &[Word::Hex(SHELF_ROOM)],
+pub const PROFILE: Makers = Makers {
     done: |random| profile(&good(random).octets(), random),
     refused: |random| profile(&bad(random), random),
     large: &[],
 };
 
-pub const PLAN: Kind = Kind {
-    name: "plan",
-    words: &[Word::Hex(SHELF_ROOM), Word::Number],
+pub const PLAN: Makers = Makers {
     done: |random| {
         let draft = good(random);
         let octets = fitting_octets(&draft, random);
@@ -29,12 +24,11 @@ pub const PLAN: Kind = Kind {
 };
 
 fn profile(record: &[u8], random: &mut Random) -> Words {
-    write::request(PROFILE.name, [write::hex(record, random)])
+    vec![write::hex(record, random)]
 }
 
 fn plan(record: &[u8], octets: u64, random: &mut Random) -> Words {
-    let words = [write::hex(record, random), write::number(octets, random)];
-    write::request(PLAN.name, words)
+    vec![write::hex(record, random), write::number(octets, random)]
 }
 
 fn refused_plan(random: &mut Random) -> Words {

@@ -2,16 +2,14 @@
 //! boundary.
 
 use super::crc::{bits, spoil};
-use super::kinds::{Kind, Word};
+use super::makers::Makers;
 use super::parity::mark;
 use super::write::{self, Words};
 use crate::parity::FILLER;
 use crate::random::Random;
 use crate::words::OUTPUT_ROOM;
 
-pub const RATE: Kind = Kind {
-    name: "rate",
-    words: &[Word::Number, Word::Bits, Word::Number],
+pub const RATE: Makers = Makers {
     done,
     refused,
     large: &[|random| {
@@ -21,12 +19,11 @@ pub const RATE: Kind = Kind {
 };
 
 fn rate(e: u64, places: &[u8], length: usize, random: &mut Random) -> Words {
-    let words = [
+    vec![
         write::number(e, random),
         write::bits(places, random),
         write::count(length, random),
-    ];
-    write::request(RATE.name, words)
+    ]
 }
 
 /// A coded block, now and then with no place or with every place marked.

@@ -2,7 +2,7 @@
 //! its boundary.
 
 use super::crc::spoil;
-use super::kinds::{Kind, Word};
+use super::makers::Makers;
 use super::records::{bad, good};
 use super::send::{allocation, octets, one_too_many, small, spoil_allocation, Cut, Sending};
 use super::write::{self, Words};
@@ -11,18 +11,8 @@ use crate::random::Random;
 use crate::receive::unmarked_places;
 use crate::samples::TOY;
 use crate::transfer::{Asked, Transfer};
-use crate::words::SHELF_ROOM;
 
-pub const RECV: Kind = Kind {
-    name: "recv",
-    words: &[
-        Word::Hex(SHELF_ROOM),
-        Word::Number,
-        Word::Number,
-        Word::Number,
-        Word::Bits,
-        Word::Number,
-    ],
+pub const RECV: Makers = Makers {
     done: |random| {
         let draft = good(random);
         let receiving = Receiving::drawn(&draft, random);
@@ -83,7 +73,7 @@ impl Receiving {
 fn request(record: &[u8], receiving: &Receiving, random: &mut Random) -> Words {
     let mut words = vec![write::hex(record, random)];
     words.extend(receiving.words(random));
-    write::request(RECV.name, words)
+    words
 }
 
 /// A block and an allocation in which each share has room for what the block has to send.

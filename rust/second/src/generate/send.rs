@@ -1,7 +1,7 @@
 //! Requests `send`: blocks of every length with shares about what they need, and each refusal at its
 //! boundary.
 
-use super::kinds::{Kind, Word};
+use super::makers::Makers;
 use super::profile::fitting_octets;
 use super::records::{bad, good};
 use super::write::{self, Words};
@@ -10,18 +10,8 @@ use crate::plan;
 use crate::random::Random;
 use crate::samples::half;
 use crate::transfer::Asked;
-use crate::words::{BLOCK_ROOM, SHELF_ROOM};
 
-pub const SEND: Kind = Kind {
-    name: "send",
-    words: &[
-        Word::Hex(SHELF_ROOM),
-        Word::Hex(BLOCK_ROOM),
-        Word::Number,
-        Word::Number,
-        Word::Number,
-        Word::Number,
-    ],
+pub const SEND: Makers = Makers {
     done: |random| {
         let draft = good(random);
         let sending = Sending::drawn(&draft, random);
@@ -130,7 +120,7 @@ pub fn small(number: u64) -> usize {
 fn request(record: &[u8], sending: &Sending, random: &mut Random) -> Words {
     let mut words = vec![write::hex(record, random)];
     words.extend(sending.words(random));
-    write::request(SEND.name, words)
+    words
 }
 
 pub fn octets(count: usize, random: &mut Random) -> Vec<u8> {

@@ -1,6 +1,6 @@
 -- `checksum::inner::sum_bits` meets its contract. The loop's invariant: the bits left, fed to the register, give what all of them give.
 use mathlib.Core.Path.{_≡_, refl}
-use Prim.Native.Nat.{ℕ, _-_, _^_, _<_}
+use Prim.Native.Nat.{_-_, _^_, _<_}
 use native.Mathlib.Omega.{arith}
 use lib.ListN.{length, getD, drop}
 use lib.Pow.{pow-pos}

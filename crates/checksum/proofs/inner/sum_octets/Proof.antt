@@ -1,6 +1,6 @@
 -- `checksum::inner::sum_octets` meets its contract. The loop's invariant: the octets left, fed to the register, give what all of them give.
 use mathlib.Core.Path.{_≡_, refl}
-use Prim.Native.Nat.{ℕ, _-_, _^_, _<_}
+use Prim.Native.Nat.{_-_, _^_, _<_}
 use lib.ListN.{length, drop}
 use lib.Pow.{pow-pos}
 use denote.Ref.{now}

@@ -1,7 +1,7 @@
 -- `checksum::register::octet` meets its contract. The loop's invariant: the 8 - k bits left, fed to the register, give what all eight
 -- give.
 use mathlib.Core.Path.{_≡_, refl}
-use Prim.Native.Nat.{ℕ, _+_, _-_, _^_, _<_, _≤_}
+use Prim.Native.Nat.{_+_, _-_, _^_, _<_, _≤_}
 use native.Mathlib.Omega.{arith}
 use borrow.Author.Needs.{needs}
 use Rattle.bits.specs.Bits.{digits}

@@ -1,30 +1,29 @@
 -- `coding::blocks::is_sent_as` meets its contract.
 use mathlib.Core.Path.{_≡_, sym, ap, _∙_}
-use mathlib.Core.Bool.{true, false}
-use Prim.Native.Nat.{_+_, _-_, _*_}
+use mathlib.Core.Bool.{true, false, true≢false}
+use Prim.Native.Nat.{_+_, _-_}
 use native.Mathlib.Omega.{arith}
-use lib.ListN.{length}
+use lib.ListN.{length, take}
 use denote.Ref.{now}
 use borrow.Author.Needs.{needs}
 use borrow.Author.Tests.{not-true, not-false}
-use Rattle.profile.specs.Record.{kb, m, table}
-use Rattle.parity.specs.Matrix.{checks}
-use Rattle.coding.specs.steps.Receiving.{copiesAgree}
-use Rattle.coding.proofs.PlanFields.{some-fields, index-below-t, shape-here, word-room}
-use Rattle.coding.proofs.ReceivedBlock.{planned-sent-as}
+use Rattle.cutting.proofs.PlanFields.{some-fields}
+use Rattle.matching.specs.steps.Copies.{copiesAgree}
+use Rattle.coding.specs.steps.Blocks.{checksBy}
+use Rattle.coding.proofs.PlanFields.{word-room}
+use Rattle.coding.proofs.ReceivedBlock.{planned-sent-as, gathered-own}
 use Rattle.coding.proofs.blocks.is_sent_as.Statement.{statement}
 use Rattle.coding.proofs.blocks.is_sent_as.Tie as tie
 
-sub-t14 : tie.Need-sub-t14
-sub-t14 c =
+sub-t9 : tie.Need-sub-t9
+sub-t9 c =
     let st = c .before .before .before in
     let a = st .args in
     let R = now (a .profile) in
-    let room = word-room R (a .plan) (some-fields R (a .plan) (st .pre .0)) in
-    omega (arith, room, st .pre)
+    omega (arith, word-room R (a .plan) (some-fields R (a .plan) (st .pre .some)), st .pre .fits)
 
-add-t15 : tie.Need-add-t15
-add-t15 c = search needs
+add-t10 : tie.Need-add-t10
+add-t10 c = search needs
 
 copies-agree-requires : tie.Need-copies-agree-requires
 copies-agree-requires c κs = search needs
@@ -34,77 +33,40 @@ returns c =
     let st = c .before .before .before .before .before in
     let a = st .args in
     let R = now (a .profile) in
-    let law = planned-sent-as R (a .plan) (st .pre .0) (now (a .s)) (a .own) (length (now (a .word))) (st .pre .1) (st .pre .2) (st .pre .3) (st .pre .4) in
+    let law = planned-sent-as R (a .plan) (st .pre .some) (now (a .s)) (a .own) (length (now (a .word))) (st .pre .own-fits) (st .pre .fits) (st .pre .room) (st .pre .single) in
     let none : copiesAgree (a .own + (length (now (a .word)) - a .plan .places)) (now (a .s)) ≡ false = sym (c .before .copies-agree .ensures) ∙ not-true _ (c .if1 .taken) in
-    rw none at law
+    record { is = rw none at law; front = λ q. absurd (true≢false (sym q)) }
 
 gather-requires : tie.Need-gather-requires
 gather-requires c κs =
     let st = c .before .before .before .before .before .before in
     let a = st .args in
     let R = now (a .profile) in
-    let room = word-room R (a .plan) (some-fields R (a .plan) (st .pre .0)) in
-    (st .pre .1, omega (arith, room, st .pre), st .pre .3)
+    (st .pre .own-fits, omega (arith, word-room R (a .plan) (some-fields R (a .plan) (st .pre .some)), st .pre .fits), st .pre .room)
 
-kb-requires : tie.Need-kb-requires
-kb-requires c κs =
-    let st = c .before .before .before .before .before .before .before .before .before in
-    let a = st .args in
-    let R = now (a .profile) in
-    let k = some-fields R (a .plan) (st .pre .0) in
-    k .accepted
-
-m-requires : tie.Need-m-requires
-m-requires c κs =
+is-even-requires : tie.Need-is-even-requires
+is-even-requires c κs =
     let st = c .before .before .before .before .before .before .before .before .before .before in
     let a = st .args in
     let R = now (a .profile) in
-    let k = some-fields R (a .plan) (st .pre .0) in
-    k .accepted
-
-table-requires : tie.Need-table-requires
-table-requires c κs =
-    let st = c .before .before .before .before .before .before .before .before .before .before .before in
-    let a = st .args in
-    let R = now (a .profile) in
-    let k = some-fields R (a .plan) (st .pre .0) in
-    (k .accepted, index-below-t R (a .plan) k)
-
-checks-requires : tie.Need-checks-requires
-checks-requires c κs =
-    let st = c .before .before .before .before .before .before .before .before .before .before .before .before .before in
-    let a = st .args in
-    let R = now (a .profile) in
-    let k = some-fields R (a .plan) (st .pre .0) in
-    let gather = c .before .before .before .before .before .before .gather in
-    let long : length (gather .last .1 .1 .1 .0) ≡ (kb R + m R) * a .plan .z = omega (arith, st .pre, gather .kept .1 .1 .1 .0) in
-    rw (c .before .table .ensures, c .before .before .m .ensures .0, c .before .before .before .kb .ensures .0) (shape-here R (a .plan) k, long)
+    let gather = c .before .before .before .gather in
+    (st .pre .some, gather .kept .1 .1 .1 .0 ∙ st .pre .fits)
 
 same-length : tie.Need-same-length
 same-length c = search needs
 
 returns-2 : tie.Need-returns-2
 returns-2 c =
-    let st = c .before .before .before .before .before .before .before .before .before .before .before .before .before .before in
+    let st = c .before .before .before .before .before .before .before .before .before .before .before in
     let a = st .args in
     let R = now (a .profile) in
-    let law = planned-sent-as R (a .plan) (st .pre .0) (now (a .s)) (a .own) (length (now (a .word))) (st .pre .1) (st .pre .2) (st .pre .3) (st .pre .4) in
-    let all : copiesAgree (a .own + (length (now (a .word)) - a .plan .places)) (now (a .s)) ≡ true = sym (c .before .before .before .before .before .before .before .before .before .before .copies-agree .ensures) ∙ not-false _ (c .before .before .before .before .before .before .before .before .before .if1 .left) in
-    let checked = rw (c .before .before .table .ensures, c .before .before .before .m .ensures .0, c .before .before .before .before .kb .ensures .0) at (c .checks .ensures) in
-    checked ∙ ap (checks (table R (a .plan .index)) (m R) (kb R + m R) (a .plan .z)) (c .before .before .before .before .before .before .before .gather .ensures) ∙ (rw all at law)
+    let law = planned-sent-as R (a .plan) (st .pre .some) (now (a .s)) (a .own) (length (now (a .word))) (st .pre .own-fits) (st .pre .fits) (st .pre .room) (st .pre .single) in
+    let all : copiesAgree (a .own + (length (now (a .word)) - a .plan .places)) (now (a .s)) ≡ true = sym (c .before .before .before .before .before .before .before .copies-agree .ensures) ∙ not-false _ (c .before .before .before .before .before .before .if1 .left) in
+    let gather = c .before .before .before .before .gather in
+    record {
+      is = c .is-even .ensures ∙ ap (checksBy R (a .plan)) (gather .ensures) ∙ (rw all at law);
+      front = λ q. ap (take (a .own)) (gather .ensures) ∙ gathered-own (now (a .s)) (a .own) (a .plan .places) (length (now (a .word)) - a .plan .places) (omega (arith, st .pre .room));
+    }
 
 pub is-sent-as-spec : {M : Type 1} → statement M
-is-sent-as-spec =
-    tie.close
-    (tie.spec
-    sub-t14
-    add-t15
-    copies-agree-requires
-    returns
-    gather-requires
-    kb-requires
-    m-requires
-    table-requires
-    checks-requires
-    same-length
-    returns-2)
+is-sent-as-spec = tie.close (tie.spec sub-t9 add-t10 copies-agree-requires returns gather-requires is-even-requires same-length returns-2)

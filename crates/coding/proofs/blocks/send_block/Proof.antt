@@ -6,8 +6,9 @@ use native.Mathlib.Omega.{arith}
 use lib.ListN.{length, drop}
 use denote.Ref.{now}
 use borrow.Author.Needs.{needs}
-use Rattle.coding.specs.Matching.{matched}
-use Rattle.coding.proofs.PlanFields.{some-fields, word-room, word-coded, word-filler}
+use Rattle.cutting.proofs.PlanFields.{some-fields}
+use Rattle.matching.specs.Matching.{matched}
+use Rattle.coding.proofs.PlanFields.{word-room, word-coded, word-filler}
 use Rattle.coding.proofs.blocks.send_block.Statement.{statement}
 use Rattle.coding.proofs.blocks.send_block.Tie as tie
 
@@ -19,12 +20,12 @@ match-filled-requires c κs =
     let st = c .before .before .before .before .before .before .before .before .before .before in
     let a = st .args in
     let R = now (a .profile) in
-    let k = some-fields R (a .plan) (st .pre .0 .some) in
+    let k = some-fields R (a .plan) (st .pre .0 .ready .some) in
     let code = c .before .before .before .before .code in
-    let filled = word-filler R (now (a .bits)) (a .plan) k (st .pre .0 .single) (a .start) (a .own) (st .pre .1) (st .pre .2) (code .last .1 .1 .1 .1 .1 .0) (code .ensures) in
+    let filled = word-filler R (now (a .bits)) (a .plan) k (st .pre .0 .ready .single) (a .start) (a .own) (st .pre .0 .own-fits) (st .pre .0 .inside) (code .last .1 .1 .1 .1 .1 .0) (code .ensures) in
     let room = word-room R (a .plan) k in
     let tail : a .plan .places < length (code .last .1 .1 .1 .1 .1 .0) = omega (arith, room, code .ensures .size) in
-    (filled, tail, omega (arith, st .pre .4))
+    (filled, tail, omega (arith, st .pre .1))
 
 same-length : tie.Need-same-length
 same-length c = search needs
@@ -37,9 +38,9 @@ returns c =
     let st = c .before .before .before .before .before .before .before .before .before .before .before .before .before in
     let a = st .args in
     let R = now (a .profile) in
-    let k = some-fields R (a .plan) (st .pre .0 .some) in
+    let k = some-fields R (a .plan) (st .pre .0 .ready .some) in
     let code = c .before .before .before .before .before .before .before .code in
-    let same = word-coded R (now (a .bits)) (a .plan) k (st .pre .0 .single) (a .start) (a .own) (st .pre .1) (st .pre .2) (code .last .1 .1 .1 .1 .1 .0) (code .ensures) (st .pre .5) in
+    let same = word-coded R (now (a .bits)) (a .plan) k (st .pre .0 .ready .single) (a .start) (a .own) (st .pre .0 .own-fits) (st .pre .0 .inside) (code .last .1 .1 .1 .1 .1 .0) (code .ensures) (st .pre .2) in
     c .before .before .match-filled .ensures ∙ ap (λ (w : List ℕ). matched w (a .e .0) ++ drop (a .e .0) (now (a .out))) same
 
 pub send-block-spec : {M : Type 1} → statement M

@@ -1,18 +1,21 @@
 -- `coding::receiving::rebuild` meets its contract. The loop's invariant: the blocks before r were tested, and their own bits gathered.
 use mathlib.Core.Path.{_≡_, refl, sym, ap, _∙_}
-use mathlib.Core.Bool.{true, true≢false}
+use mathlib.Core.Bool.{true≢false}
 use Prim.Native.Nat.{ℕ, _+_, _-_, _≤_, _<_}
 use native.Mathlib.Omega.{arith}
 use lib.ListN.{length, take, drop}
 use denote.Ref.{now}
 use borrow.Author.Tests.{not-true, not-false}
 use borrow.Author.Needs.{needs}
+use lib.Seq.{take-take}
 use Rattle.bits.specs.Ranges.{sumBelow}
-use Rattle.bits.proofs.Lists.{bits-take, bits-drop, length-part}
-use Rattle.profile.specs.Plan.{blocks}
-use Rattle.coding.specs.Allocation.{share}
-use Rattle.coding.proofs.Shares.{shares-fit}
 use Rattle.bits.specs.declared.count.CodedBits.{CodedBits}
+use Rattle.bits.proofs.Laid.{laid-from}
+use Rattle.bits.proofs.Lists.{bits-take, bits-drop, length-part}
+use Rattle.cutting.specs.Plan.{blocks}
+use Rattle.coding.specs.Allocation.{share}
+use Rattle.coding.proofs.PlanFields.{word-room}
+use Rattle.coding.proofs.Shares.{shares-fit}
 use Rattle.coding.proofs.Joining.{part-rest}
 use Rattle.coding.proofs.Rebuilt.{Walk, walk-none, walk-more, walk-done, rest-other, block-other, fields, room-here}
 use Rattle.coding.proofs.Sent.{own-fits, own-room, share-is, share-fits}
@@ -20,16 +23,16 @@ use Rattle.coding.proofs.receiving.rebuild.Statement.{statement}
 use Rattle.coding.proofs.receiving.rebuild.Tie as tie
 
 abbrev Inv-loop : tie.InvT-loop
-Inv-loop profile plan bits nl qm word₀ room₀ g b c start₀ at₀ r₀ word room start at r =
-    (r ≤ plan .blocks) × (length word ≡ length word₀) × Walk profile nl qm bits (plan .bits) room₀ r start at room
+Inv-loop profile plan bits terms word₀ room₀ g b c start₀ at₀ r₀ word room start at r =
+    (r ≤ plan .blocks) × (length word ≡ length word₀) × Walk profile terms bits (plan .bits) room₀ r start at room
 
 abbrev μ-loop : tie.MeasureT-loop
-μ-loop profile plan bits nl qm word₀ room₀ g b c start₀ at₀ r₀ word room start at r = plan .blocks - r
+μ-loop profile plan bits terms word₀ room₀ g b c start₀ at₀ r₀ word room start at r = plan .blocks - r
 
 loop-holds : tie.Need-loop-holds Inv-loop μ-loop
 loop-holds c = let st = c .before .before .before .before in
     let a = st .args in
-    (search needs, refl, walk-none (now (a .profile)) (a .nl) (a .qm) (now (a .bits)) (a .plan .bits) (now (a .room)))
+    (search needs, refl, walk-none (now (a .profile)) (a .terms) (now (a .bits)) (a .plan .bits) (now (a .room)))
 
 own-bits-requires : tie.Need-own-bits-requires Inv-loop μ-loop
 own-bits-requires c κs = let l = c in
@@ -38,7 +41,7 @@ own-bits-requires c κs = let l = c in
     let R = now (a .profile) in
     let s = now (a .bits) in
     let h = st .pre .0 in
-    let k = fields R (a .nl) (a .qm) s (a .plan) h in
+    let k = fields R (a .terms) s (a .plan) h in
     let i = l .before .loop in
     let order : i .r < a .plan .blocks = omega (arith, l) in
     (k .cut .bits-high, omega (arith, order), omega (arith, k .blocks-is, k .cut .most))
@@ -50,10 +53,10 @@ share-of-requires c κs = let l = c .before in
     let R = now (a .profile) in
     let s = now (a .bits) in
     let h = st .pre .0 in
-    let k = fields R (a .nl) (a .qm) s (a .plan) h in
+    let k = fields R (a .terms) s (a .plan) h in
     let i = l .before .loop in
     let order : i .r < a .plan .blocks = omega (arith, l) in
-    record { layers = h .receivable .allocated .layers; order = h .receivable .allocated .order; some = h .receivable .allocated .some; most = h .receivable .allocated .most; blocks = omega (arith, order) }
+    record { usable = h .receivable .allocated .usable; most = h .receivable .allocated .most; blocks = omega (arith, order) }
 
 add-is-sent-as : tie.Need-add-is-sent-as Inv-loop μ-loop
 add-is-sent-as c = let l = c .before .before .before in
@@ -62,13 +65,13 @@ add-is-sent-as c = let l = c .before .before .before in
     let R = now (a .profile) in
     let s = now (a .bits) in
     let h = st .pre .0 in
-    let k = fields R (a .nl) (a .qm) s (a .plan) h in
+    let k = fields R (a .terms) s (a .plan) h in
     let i = l .before .loop in
     let order : i .r < a .plan .blocks = omega (arith, l) in
     let own = c .before .before .own-bits in
     let e = c .before .share-of in
-    let mine = share-is R (a .plan) k (a .nl) (a .qm) (length s) (i .r) (e .result .0) (ap (λ (x : CodedBits). x .0) (e .ensures)) in
-    let fits = share-fits R (a .plan) k (a .nl) (a .qm) (length s) (i .r) (i .at) (e .result .0) order (i .inv .2 .stands) mine in
+    let mine = share-is R (a .plan) k (a .terms) (length s) (i .r) (e .result .0) (ap (λ (x : CodedBits). x .0) (e .ensures)) in
+    let fits = share-fits R (a .plan) k (a .terms) (length s) (i .r) (i .at) (e .result .0) order (i .inv .2 .stands) mine in
     omega (arith, fits, h .receivable .allocated .most)
 
 sub-is-sent-as : tie.Need-sub-is-sent-as Inv-loop μ-loop
@@ -84,13 +87,13 @@ part-is-sent-as-end c = let l = c .before .before .before in
     let R = now (a .profile) in
     let s = now (a .bits) in
     let h = st .pre .0 in
-    let k = fields R (a .nl) (a .qm) s (a .plan) h in
+    let k = fields R (a .terms) s (a .plan) h in
     let i = l .before .loop in
     let order : i .r < a .plan .blocks = omega (arith, l) in
     let own = c .before .before .own-bits in
     let e = c .before .share-of in
-    let mine = share-is R (a .plan) k (a .nl) (a .qm) (length s) (i .r) (e .result .0) (ap (λ (x : CodedBits). x .0) (e .ensures)) in
-    let fits = share-fits R (a .plan) k (a .nl) (a .qm) (length s) (i .r) (i .at) (e .result .0) order (i .inv .2 .stands) mine in
+    let mine = share-is R (a .plan) k (a .terms) (length s) (i .r) (e .result .0) (ap (λ (x : CodedBits). x .0) (e .ensures)) in
+    let fits = share-fits R (a .plan) k (a .terms) (length s) (i .r) (i .at) (e .result .0) order (i .inv .2 .stands) mine in
     fits
 
 is-sent-as-requires : tie.Need-is-sent-as-requires Inv-loop μ-loop
@@ -100,21 +103,22 @@ is-sent-as-requires c κs = let l = c .before .before .before .before .before in
     let R = now (a .profile) in
     let s = now (a .bits) in
     let h = st .pre .0 in
-    let k = fields R (a .nl) (a .qm) s (a .plan) h in
+    let k = fields R (a .terms) s (a .plan) h in
     let i = l .before .loop in
     let order : i .r < a .plan .blocks = omega (arith, l) in
     let own = c .before .before .before .before .own-bits in
     let e = c .before .before .before .share-of in
-    let mine = share-is R (a .plan) k (a .nl) (a .qm) (length s) (i .r) (e .result .0) (ap (λ (x : CodedBits). x .0) (e .ensures)) in
-    let fits = share-fits R (a .plan) k (a .nl) (a .qm) (length s) (i .r) (i .at) (e .result .0) order (i .inv .2 .stands) mine in
+    let mine = share-is R (a .plan) k (a .terms) (length s) (i .r) (e .result .0) (ap (λ (x : CodedBits). x .0) (e .ensures)) in
+    let fits = share-fits R (a .plan) k (a .terms) (length s) (i .r) (i .at) (e .result .0) order (i .inv .2 .stands) mine in
     let whole : i .at + e .result .0 - i .at ≡ e .result .0 = omega arith in
-    let size : length (take (i .at + e .result .0 - i .at) (drop (i .at) s)) ≡ e .result .0 = rw whole (length-part (e .result .0) (i .at) s fits) in (
-      record { octets = h .octets; taken = h .receivable .taken; plan = h .plan },
-      own-room R (a .plan) k (i .r) (own .result) (own .ensures),
-      i .inv .1 ∙ st .pre .1,
-      omega (arith, size, i .inv .1, st .pre .1, room-here R (a .nl) (a .qm) s (a .plan) h (i .r) (own .result) (e .result .0) order (own .ensures) mine),
-      bits-take (i .at + e .result .0 - i .at) (drop (i .at) s) (bits-drop (i .at) s (h .receivable .single)),
-    )
+    let size : length (take (i .at + e .result .0 - i .at) (drop (i .at) s)) ≡ e .result .0 = rw whole (length-part (e .result .0) (i .at) s fits) in
+    record {
+      some = record { octets = h .octets; taken = h .receivable .taken; plan = h .plan };
+      own-fits = own-room R (a .plan) k (i .r) (own .result) (own .ensures);
+      fits = i .inv .1 ∙ st .pre .1;
+      room = omega (arith, size, i .inv .1, st .pre .1, room-here R (a .terms) s (a .plan) h (i .r) (own .result) (e .result .0) order (own .ensures) mine);
+      single = bits-take (i .at + e .result .0 - i .at) (drop (i .at) s) (bits-drop (i .at) s (h .receivable .single));
+    }
 
 same-length : tie.Need-same-length Inv-loop μ-loop
 same-length c = search needs
@@ -129,100 +133,103 @@ returns c = let l = c .before .before .before .before .before .before .before .b
     let R = now (a .profile) in
     let s = now (a .bits) in
     let h = st .pre .0 in
-    let k = fields R (a .nl) (a .qm) s (a .plan) h in
+    let k = fields R (a .terms) s (a .plan) h in
     let i = l .before .loop in
     let order : i .r < a .plan .blocks = omega (arith, l) in
     let own = c .before .before .before .before .before .before .before .before .own-bits in
     let e = c .before .before .before .before .before .before .before .share-of in
-    let mine = share-is R (a .plan) k (a .nl) (a .qm) (length s) (i .r) (e .result .0) (ap (λ (x : CodedBits). x .0) (e .ensures)) in
-    let fits = share-fits R (a .plan) k (a .nl) (a .qm) (length s) (i .r) (i .at) (e .result .0) order (i .inv .2 .stands) mine in
+    let mine = share-is R (a .plan) k (a .terms) (length s) (i .r) (e .result .0) (ap (λ (x : CodedBits). x .0) (e .ensures)) in
+    let fits = share-fits R (a .plan) k (a .terms) (length s) (i .r) (i .at) (e .result .0) order (i .inv .2 .stands) mine in
     let whole : i .at + e .result .0 - i .at ≡ e .result .0 = omega arith in
     let is = c .before .before .before .is-sent-as in
-    let told = rw whole at (is .ensures) in
+    let told = rw whole at (is .ensures .is) in
     record {
       sent = λ q. absurd (true≢false (sym q));
       other = λ q parity all.
-          block-other R (a .nl) (a .qm) s (a .plan) h (i .r) (i .at) (e .result .0) (own .result) order (i .inv .2 .stands) mine (own .ensures)
+          block-other R (a .terms) s (a .plan) h (i .r) (i .at) (e .result .0) (own .result) order (i .inv .2 .stands) mine (own .ensures)
           (is .result) told (not-true _ (c .if1 .taken)) parity all;
     }
 
 lay-requires : tie.Need-lay-requires Inv-loop μ-loop
-lay-requires c κs = let l = c .before .before .before .before .before .before .before .before .before .before in
+lay-requires c κs = let l = c .before .before .before .before .before .before .before .before .before .before .before in
     let st = l .before .before .before .before .before .before in
     let a = st .args in
     let R = now (a .profile) in
     let s = now (a .bits) in
     let h = st .pre .0 in
-    let k = fields R (a .nl) (a .qm) s (a .plan) h in
+    let k = fields R (a .terms) s (a .plan) h in
     let i = l .before .loop in
     let order : i .r < a .plan .blocks = omega (arith, l) in
-    let own = c .before .before .before .before .before .before .before .before .before .own-bits in
-    let e = c .before .before .before .before .before .before .before .before .share-of in
-    let mine = share-is R (a .plan) k (a .nl) (a .qm) (length s) (i .r) (e .result .0) (ap (λ (x : CodedBits). x .0) (e .ensures)) in
-    let fits = share-fits R (a .plan) k (a .nl) (a .qm) (length s) (i .r) (i .at) (e .result .0) order (i .inv .2 .stands) mine in (
-      omega (arith, fits, room-here R (a .nl) (a .qm) s (a .plan) h (i .r) (own .result) (e .result .0) order (own .ensures) mine),
+    let own = c .before .before .before .before .before .before .before .before .before .before .own-bits in
+    let e = c .before .before .before .before .before .before .before .before .before .share-of in
+    let mine = share-is R (a .plan) k (a .terms) (length s) (i .r) (e .result .0) (ap (λ (x : CodedBits). x .0) (e .ensures)) in
+    let fits = share-fits R (a .plan) k (a .terms) (length s) (i .r) (i .at) (e .result .0) order (i .inv .2 .stands) mine in (
+      omega (arith, own-room R (a .plan) k (i .r) (own .result) (own .ensures), word-room R (a .plan) k, c .before .before .before .before .before .is-sent-as .kept .1 .1 .1 .1 .0, i .inv .1, st .pre .1),
       omega (arith, own-fits R (a .plan) k (i .r) (i .start) (own .result) order (i .inv .2 .starts) (own .ensures), k .cut .bits-high, i .inv .2 .same, st .pre .2),
     )
 
 add-start : tie.Need-add-start Inv-loop μ-loop
-add-start c = let l = c .before .before .before .before .before .before .before .before .before .before .before .before .before in
+add-start c = let l = c .before .before .before .before .before .before .before .before .before .before .before .before .before .before in
     let st = l .before .before .before .before .before .before in
     let a = st .args in
     let R = now (a .profile) in
     let s = now (a .bits) in
     let h = st .pre .0 in
-    let k = fields R (a .nl) (a .qm) s (a .plan) h in
-    let i = l .before .loop in
-    let order : i .r < a .plan .blocks = omega (arith, l) in
-    let own = c .before .before .before .before .before .before .before .before .before .before .before .before .own-bits in
-    let e = c .before .before .before .before .before .before .before .before .before .before .before .share-of in
-    let mine = share-is R (a .plan) k (a .nl) (a .qm) (length s) (i .r) (e .result .0) (ap (λ (x : CodedBits). x .0) (e .ensures)) in
-    let fits = share-fits R (a .plan) k (a .nl) (a .qm) (length s) (i .r) (i .at) (e .result .0) order (i .inv .2 .stands) mine in
-    omega (arith, own-fits R (a .plan) k (i .r) (i .start) (own .result) order (i .inv .2 .starts) (own .ensures), k .cut .bits-high)
-
-add-at : tie.Need-add-at Inv-loop μ-loop
-add-at c = let l = c .before .before .before .before .before .before .before .before .before .before .before .before .before .before in
-    let st = l .before .before .before .before .before .before in
-    let a = st .args in
-    let R = now (a .profile) in
-    let s = now (a .bits) in
-    let h = st .pre .0 in
-    let k = fields R (a .nl) (a .qm) s (a .plan) h in
+    let k = fields R (a .terms) s (a .plan) h in
     let i = l .before .loop in
     let order : i .r < a .plan .blocks = omega (arith, l) in
     let own = c .before .before .before .before .before .before .before .before .before .before .before .before .before .own-bits in
     let e = c .before .before .before .before .before .before .before .before .before .before .before .before .share-of in
-    let mine = share-is R (a .plan) k (a .nl) (a .qm) (length s) (i .r) (e .result .0) (ap (λ (x : CodedBits). x .0) (e .ensures)) in
-    let fits = share-fits R (a .plan) k (a .nl) (a .qm) (length s) (i .r) (i .at) (e .result .0) order (i .inv .2 .stands) mine in
+    let mine = share-is R (a .plan) k (a .terms) (length s) (i .r) (e .result .0) (ap (λ (x : CodedBits). x .0) (e .ensures)) in
+    let fits = share-fits R (a .plan) k (a .terms) (length s) (i .r) (i .at) (e .result .0) order (i .inv .2 .stands) mine in
+    omega (arith, own-fits R (a .plan) k (i .r) (i .start) (own .result) order (i .inv .2 .starts) (own .ensures), k .cut .bits-high)
+
+add-at : tie.Need-add-at Inv-loop μ-loop
+add-at c = let l = c .before .before .before .before .before .before .before .before .before .before .before .before .before .before .before in
+    let st = l .before .before .before .before .before .before in
+    let a = st .args in
+    let R = now (a .profile) in
+    let s = now (a .bits) in
+    let h = st .pre .0 in
+    let k = fields R (a .terms) s (a .plan) h in
+    let i = l .before .loop in
+    let order : i .r < a .plan .blocks = omega (arith, l) in
+    let own = c .before .before .before .before .before .before .before .before .before .before .before .before .before .before .own-bits in
+    let e = c .before .before .before .before .before .before .before .before .before .before .before .before .before .share-of in
+    let mine = share-is R (a .plan) k (a .terms) (length s) (i .r) (e .result .0) (ap (λ (x : CodedBits). x .0) (e .ensures)) in
+    let fits = share-fits R (a .plan) k (a .terms) (length s) (i .r) (i .at) (e .result .0) order (i .inv .2 .stands) mine in
     omega (arith, fits, h .receivable .allocated .most)
 
 add-r : tie.Need-add-r Inv-loop μ-loop
-add-r c = omega (arith, c .before .before .before .before .before .before .before .before .before .before .before .before .before .before)
+add-r c = omega (arith, c .before .before .before .before .before .before .before .before .before .before .before .before .before .before .before)
 
 loop-less : tie.Need-loop-less Inv-loop μ-loop
 loop-less c = search needs
 
 loop-again : tie.Need-loop-again Inv-loop μ-loop
-loop-again c = let l = c .before .before .before .before .before .before .before .before .before .before .before .before .before .before in
+loop-again c = let l = c .before .before .before .before .before .before .before .before .before .before .before .before .before .before .before in
     let st = l .before .before .before .before .before .before in
     let a = st .args in
     let R = now (a .profile) in
     let s = now (a .bits) in
     let h = st .pre .0 in
-    let k = fields R (a .nl) (a .qm) s (a .plan) h in
+    let k = fields R (a .terms) s (a .plan) h in
     let i = l .before .loop in
     let order : i .r < a .plan .blocks = omega (arith, l) in
-    let own = c .before .before .before .before .before .before .before .before .before .before .before .before .before .own-bits in
-    let e = c .before .before .before .before .before .before .before .before .before .before .before .before .share-of in
-    let mine = share-is R (a .plan) k (a .nl) (a .qm) (length s) (i .r) (e .result .0) (ap (λ (x : CodedBits). x .0) (e .ensures)) in
-    let fits = share-fits R (a .plan) k (a .nl) (a .qm) (length s) (i .r) (i .at) (e .result .0) order (i .inv .2 .stands) mine in
+    let own = c .before .before .before .before .before .before .before .before .before .before .before .before .before .before .own-bits in
+    let e = c .before .before .before .before .before .before .before .before .before .before .before .before .before .share-of in
+    let mine = share-is R (a .plan) k (a .terms) (length s) (i .r) (e .result .0) (ap (λ (x : CodedBits). x .0) (e .ensures)) in
+    let fits = share-fits R (a .plan) k (a .terms) (length s) (i .r) (i .at) (e .result .0) order (i .inv .2 .stands) mine in
     let whole : i .at + e .result .0 - i .at ≡ e .result .0 = omega arith in
-    let is = c .before .before .before .before .before .before .before .before .is-sent-as in
-    let told = rw whole at (is .ensures) in (
+    let is = c .before .before .before .before .before .before .before .before .before .is-sent-as in
+    let told = rw whole at (is .ensures .is) in
+    let yes = not-false _ (c .before .before .before .before .before .before .if1 .left) in
+    let less : own .result ≤ e .result .0 = omega (arith, room-here R (a .terms) s (a .plan) h (i .r) (own .result) (e .result .0) order (own .ensures) mine) in
+    let front : take (own .result) (is .last .1 .1 .1 .1 .0) ≡ take (own .result) (drop (i .at) s) = (rw whole at (is .ensures .front yes)) ∙ take-take (own .result) (e .result .0) (drop (i .at) s) less in (
       omega (arith, order),
       is .kept .1 .1 .1 .1 .0 ∙ i .inv .1,
-      walk-more R (a .nl) (a .qm) s (a .plan) h (i .r) (i .at) (e .result .0) (own .result) order (i .inv .2 .stands) mine (own .ensures)
-          (is .result) told (now (a .room)) (i .room) _ (i .start) (not-false _ (c .before .before .before .before .before .if1 .left)) (st .pre .2) (i .inv .2) (c .before .before .before .lay .ensures),
+      walk-more R (a .terms) s (a .plan) h (i .r) (i .at) (e .result .0) (own .result) order (i .inv .2 .stands) mine (own .ensures)
+          (is .result) told (now (a .room)) (i .room) _ (i .start) yes (st .pre .2) (i .inv .2) (laid-from s (is .last .1 .1 .1 .1 .0) (i .room) _ (i .at) (own .result) (i .start) front (c .before .before .before .lay .ensures)),
     )
 
 sub-some-over : tie.Need-sub-some-over Inv-loop μ-loop
@@ -231,11 +238,11 @@ sub-some-over c = let st = c .before .before .before .before .before .before in
     let R = now (a .profile) in
     let s = now (a .bits) in
     let h = st .pre .0 in
-    let k = fields R (a .nl) (a .qm) s (a .plan) h in
+    let k = fields R (a .terms) s (a .plan) h in
     let i = c .before .loop in
     let last : i .r ≡ a .plan .blocks = omega (arith, i .inv .0, c) in
-    let most = shares-fit (a .nl) (a .qm) (length s) (blocks R (a .plan .bits)) in
-    let to = ap (λ (n : ℕ). sumBelow n (λ j. share (a .nl) (a .qm) (length s) (blocks R (a .plan .bits)) j .0)) (last ∙ k .blocks-is) in
+    let most = shares-fit (a .terms) (length s) (blocks R (a .plan .bits)) in
+    let to = ap (λ (n : ℕ). sumBelow n (λ j. share (a .terms) (length s) (blocks R (a .plan .bits)) j .0)) (last ∙ k .blocks-is) in
     omega (arith, most, to, i .inv .2 .stands)
 
 part-some-over-start : tie.Need-part-some-over-start Inv-loop μ-loop
@@ -244,11 +251,11 @@ part-some-over-start c = let st = c .before .before .before .before .before .bef
     let R = now (a .profile) in
     let s = now (a .bits) in
     let h = st .pre .0 in
-    let k = fields R (a .nl) (a .qm) s (a .plan) h in
+    let k = fields R (a .terms) s (a .plan) h in
     let i = c .before .loop in
     let last : i .r ≡ a .plan .blocks = omega (arith, i .inv .0, c) in
-    let most = shares-fit (a .nl) (a .qm) (length s) (blocks R (a .plan .bits)) in
-    let to = ap (λ (n : ℕ). sumBelow n (λ j. share (a .nl) (a .qm) (length s) (blocks R (a .plan .bits)) j .0)) (last ∙ k .blocks-is) in
+    let most = shares-fit (a .terms) (length s) (blocks R (a .plan .bits)) in
+    let to = ap (λ (n : ℕ). sumBelow n (λ j. share (a .terms) (length s) (blocks R (a .plan .bits)) j .0)) (last ∙ k .blocks-is) in
     omega (arith, most, to, i .inv .2 .stands)
 
 part-some-over-end : tie.Need-part-some-over-end Inv-loop μ-loop
@@ -269,15 +276,15 @@ returns-2 c = let st = c .before .before .before .before .before .before .before
     let R = now (a .profile) in
     let s = now (a .bits) in
     let h = st .pre .0 in
-    let k = fields R (a .nl) (a .qm) s (a .plan) h in
+    let k = fields R (a .terms) s (a .plan) h in
     let i = c .before .before .before .loop in
     let last : i .r ≡ a .plan .blocks = omega (arith, i .inv .0, c .before .before) in
     let over = c .some-over in
     let told = rw (part-rest (i .at) s) at (over .ensures) in
     record {
-      sent = λ q. walk-done R (a .nl) (a .qm) s (a .plan) h (now (a .room)) (i .room) (i .r) (i .start) (i .at) last (i .inv .2) (sym told ∙ not-true _ q);
+      sent = λ q. walk-done R (a .terms) s (a .plan) h (now (a .room)) (i .room) (i .r) (i .start) (i .at) last (i .inv .2) (sym told ∙ not-true _ q);
       other = λ q parity all.
-          rest-other R (a .nl) (a .qm) s (a .plan) h (now (a .room)) (i .room) (i .r) (i .start) (i .at) last (i .inv .2) (sym told ∙ not-false _ q) all;
+          rest-other R (a .terms) s (a .plan) h (now (a .room)) (i .room) (i .r) (i .start) (i .at) last (i .inv .2) (sym told ∙ not-false _ q) all;
     }
 
 pub rebuild-spec : {M : Type 1} → statement M

@@ -10,10 +10,10 @@ use borrow.Author.Count.{below-more}
 use borrow.Author.Tests.{not-true, not-false}
 use borrow.Author.Needs.{needs}
 use Rattle.bits.proofs.Ranges.{any-of, any-none}
-use Rattle.profile.specs.Plan.{blocks}
-use Rattle.coding.specs.Cutting.{ownStart}
+use Rattle.cutting.specs.Plan.{blocks}
+use Rattle.cutting.specs.Cutting.{ownStart}
+use Rattle.cutting.proofs.PlanFields.{some-fields}
 use Rattle.coding.specs.Blocks.{blockHasParity, someWithoutParity}
-use Rattle.coding.proofs.PlanFields.{some-fields}
 use Rattle.coding.proofs.Sent.{start-none, start-turn, own-is, own-fits, own-room, parity-is}
 use Rattle.coding.proofs.sending.all_have_parity.Statement.{statement}
 use Rattle.coding.proofs.sending.all_have_parity.Tie as tie
@@ -50,7 +50,12 @@ has-parity-requires c κs =
     let l = c .before .before .before .loop in
     let own = c .before .own-bits in
     let fits = own-fits R (a .plan) k (l .r) (l .start) (own .result) (omega (arith, c .before .before)) (l .inv .1) (own .ensures) in
-    (st .pre .0, own-room R (a .plan) k (l .r) (own .result) (own .ensures), omega (arith, fits, st .pre .0 .size), omega (arith, l .inv .2, st .pre .1))
+    record {
+      ready = st .pre .0;
+      own-fits = own-room R (a .plan) k (l .r) (own .result) (own .ensures);
+      inside = omega (arith, fits, st .pre .0 .size);
+      fits = l .inv .2 ∙ st .pre .1;
+    }
 
 same-length : tie.Need-same-length Inv-loop μ-loop
 same-length c = search needs

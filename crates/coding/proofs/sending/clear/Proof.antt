@@ -1,7 +1,7 @@
 -- `coding::sending::clear` meets its contract. The loop's invariant: k zeros are written.
 use mathlib.Core.Path.{_≡_, refl}
 use mathlib.Core.List.{_++_}
-use Prim.Native.Nat.{_+_, _-_, _≤_}
+use Prim.Native.Nat.{_-_, _≤_}
 use native.Mathlib.Omega.{arith}
 use lib.ListN.{length, length-set, drop, replicate}
 use denote.Ref.{now}

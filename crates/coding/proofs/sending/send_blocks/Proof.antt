@@ -3,21 +3,21 @@
 use mathlib.Core.Path.{_≡_, refl, sym, ap, _∙_}
 use mathlib.Core.Bool.{not}
 use mathlib.Core.List.{List, _++_}
-use Prim.Native.Nat.{ℕ, _+_, _-_, _≤_, _<_}
+use Prim.Native.Nat.{ℕ, _-_, _≤_, _<_}
 use native.Mathlib.Omega.{arith}
 use lib.ListN.{length, take, drop, length-drop}
 use denote.Ref.{now}
 use borrow.Author.Tests.{not-false}
 use borrow.Author.Needs.{needs}
-use Rattle.bits.specs.declared.count.CodedBits.{CodedBits}
 use Rattle.bits.specs.Ranges.{sumBelow}
+use Rattle.bits.specs.declared.count.CodedBits.{CodedBits}
 use Rattle.bits.proofs.Ranges.{none-any}
-use Rattle.profile.specs.Plan.{blocks}
-use Rattle.coding.specs.Cutting.{ownStart}
+use Rattle.cutting.specs.Plan.{blocks}
+use Rattle.cutting.specs.Cutting.{ownStart}
+use Rattle.cutting.proofs.PlanFields.{some-fields}
 use Rattle.coding.specs.Allocation.{share}
 use Rattle.coding.specs.Blocks.{blockHasParity, someWithoutParity}
 use Rattle.coding.specs.Joining.{blockSent, joined}
-use Rattle.coding.proofs.PlanFields.{some-fields}
 use Rattle.coding.proofs.Joining.{Joined, joined-none, joined-more, part-rest}
 use Rattle.coding.proofs.Shares.{shares-fit}
 use Rattle.coding.proofs.Sent.{start-none, start-turn, own-is, own-fits, own-room, parity-is, share-is, length-block, share-fits, share-turn, block-is}
@@ -25,27 +25,27 @@ use Rattle.coding.proofs.sending.send_blocks.Statement.{statement}
 use Rattle.coding.proofs.sending.send_blocks.Tie as tie
 
 abbrev Inv-loop : tie.InvT-loop
-Inv-loop profile plan bits nl qm g word₀ out₀ b c start₀ at₀ r₀ word out start at r =
+Inv-loop profile plan bits terms g word₀ out₀ b c start₀ at₀ r₀ word out start at r =
     (r ≤ plan .blocks) × (start ≡ ownStart profile (plan .bits) r) × (length word ≡ length word₀)
-    × (at ≡ sumBelow r (λ i. share nl qm (g .0) (blocks profile (plan .bits)) i .0))
-    × Joined (blockSent profile (plan .bits) bits nl qm (g .0)) out₀ r at out
+    × (at ≡ sumBelow r (λ i. share terms (g .0) (blocks profile (plan .bits)) i .0))
+    × Joined (blockSent profile (plan .bits) bits terms (g .0)) out₀ r at out
 
 abbrev μ-loop : tie.MeasureT-loop
-μ-loop profile plan bits nl qm g word₀ out₀ b c start₀ at₀ r₀ word out start at r = plan .blocks - r
+μ-loop profile plan bits terms g word₀ out₀ b c start₀ at₀ r₀ word out start at r = plan .blocks - r
 
 within : (c : tie.In-loop Inv-loop μ-loop) → c .before .loop .at ≤ length (c .before .loop .out)
 within l =
     let st = l .before .before .before .before .before .before in
     let a = st .args in
-    let k = some-fields (now (a .profile)) (a .plan) (st .pre .0 .some) in
+    let k = some-fields (now (a .profile)) (a .plan) (st .pre .0 .ready .some) in
     let i = l .before .loop in
-    omega (arith, share-fits (now (a .profile)) (a .plan) k (a .nl) (a .qm) (a .g .0) (i .r) (i .at) _ (omega (arith, l)) (i .inv .3) refl, i .inv .4 .same, st .pre .3)
+    omega (arith, share-fits (now (a .profile)) (a .plan) k (a .terms) (a .g .0) (i .r) (i .at) _ (omega (arith, l)) (i .inv .3) refl, i .inv .4 .same, st .pre .0 .room)
 
 loop-holds : tie.Need-loop-holds Inv-loop μ-loop
 unfolding sumBelow
 loop-holds c =
     let a = c .before .before .before .before .args in
-    (search needs, sym (start-none (now (a .profile)) (a .plan .bits)), refl, refl, joined-none (blockSent (now (a .profile)) (a .plan .bits) (now (a .bits)) (a .nl) (a .qm) (a .g .0)) (now (a .out)))
+    (search needs, sym (start-none (now (a .profile)) (a .plan .bits)), refl, refl, joined-none (blockSent (now (a .profile)) (a .plan .bits) (now (a .bits)) (a .terms) (a .g .0)) (now (a .out)))
 
 own-bits-requires : tie.Need-own-bits-requires Inv-loop μ-loop
 own-bits-requires c κs =
@@ -54,12 +54,12 @@ own-bits-requires c κs =
     let a = st .args in
     let R = now (a .profile) in
     let s = now (a .bits) in
-    let k = some-fields R (a .plan) (st .pre .0 .some) in
+    let k = some-fields R (a .plan) (st .pre .0 .ready .some) in
     let i = l .before .loop in
     (k .cut .bits-high, omega (arith, k .blocks-is, k .cut .some), omega (arith, k .blocks-is, k .cut .most))
 
 share-of-requires : tie.Need-share-of-requires Inv-loop μ-loop
-share-of-requires c κs = c .before .before .before .before .before .before .before .pre .2
+share-of-requires c κs = c .before .before .before .before .before .before .before .pre .0 .allocated
 
 sub-send-block : tie.Need-sub-send-block Inv-loop μ-loop
 sub-send-block c = within (c .before .before .before)
@@ -78,19 +78,21 @@ send-block-requires c κs =
     let a = st .args in
     let R = now (a .profile) in
     let s = now (a .bits) in
-    let k = some-fields R (a .plan) (st .pre .0 .some) in
+    let k = some-fields R (a .plan) (st .pre .0 .ready .some) in
     let i = l .before .loop in
     let own = c .before .before .before .own-bits in
     let e = c .before .before .share-of in
     let order : i .r < a .plan .blocks = omega (arith, l) in
-    let mine = share-is R (a .plan) k (a .nl) (a .qm) (a .g .0) (i .r) (e .result .0) (ap (λ (x : CodedBits). x .0) (e .ensures)) in
-    let room = share-fits R (a .plan) k (a .nl) (a .qm) (a .g .0) (i .r) (i .at) (e .result .0) order (i .inv .3) mine in
-    let has = parity-is R (a .plan) k s (i .r) (i .start) (own .result) (i .inv .1) (own .ensures) ∙ not-false (blockHasParity R (a .plan .bits) s (i .r)) (none-any (blocks R (a .plan .bits)) (λ j. not (blockHasParity R (a .plan .bits) s j)) (st .pre .4) (i .r) (omega (arith, k .blocks-is))) in (
-      st .pre .0,
-      own-room R (a .plan) k (i .r) (own .result) (own .ensures),
-      omega (arith, own-fits R (a .plan) k (i .r) (i .start) (own .result) order (i .inv .1) (own .ensures), st .pre .0 .size),
-      omega (arith, i .inv .2, st .pre .1),
-      rw part-rest (simp length-drop (omega (arith, room, i .inv .4 .same, st .pre .3))),
+    let mine = share-is R (a .plan) k (a .terms) (a .g .0) (i .r) (e .result .0) (ap (λ (x : CodedBits). x .0) (e .ensures)) in
+    let room = share-fits R (a .plan) k (a .terms) (a .g .0) (i .r) (i .at) (e .result .0) order (i .inv .3) mine in
+    let has = parity-is R (a .plan) k s (i .r) (i .start) (own .result) (i .inv .1) (own .ensures) ∙ not-false (blockHasParity R (a .plan .bits) s (i .r)) (none-any (blocks R (a .plan .bits)) (λ j. not (blockHasParity R (a .plan .bits) s j)) (st .pre .2) (i .r) (omega (arith, k .blocks-is))) in (
+      record {
+        ready = st .pre .0 .ready;
+        own-fits = own-room R (a .plan) k (i .r) (own .result) (own .ensures);
+        inside = omega (arith, own-fits R (a .plan) k (i .r) (i .start) (own .result) order (i .inv .1) (own .ensures), st .pre .0 .ready .size);
+        fits = i .inv .2 ∙ st .pre .1;
+      },
+      rw part-rest (simp length-drop (omega (arith, room, i .inv .4 .same, st .pre .0 .room))),
       has,
     )
 
@@ -101,12 +103,12 @@ add-start c =
     let a = st .args in
     let R = now (a .profile) in
     let s = now (a .bits) in
-    let k = some-fields R (a .plan) (st .pre .0 .some) in
+    let k = some-fields R (a .plan) (st .pre .0 .ready .some) in
     let i = c .before .before .before .before .before .before .before .before .before .before .loop in
     let own = c .before .before .before .before .before .before .before .before .own-bits in
     let e = c .before .before .before .before .before .before .before .share-of in
     let order : i .r < a .plan .blocks = omega (arith, l) in
-    let mine = share-is R (a .plan) k (a .nl) (a .qm) (a .g .0) (i .r) (e .result .0) (ap (λ (x : CodedBits). x .0) (e .ensures)) in
+    let mine = share-is R (a .plan) k (a .terms) (a .g .0) (i .r) (e .result .0) (ap (λ (x : CodedBits). x .0) (e .ensures)) in
     let fits = own-fits R (a .plan) k (i .r) (i .start) (own .result) order (i .inv .1) (own .ensures) in
     omega (arith, fits, k .cut .bits-high)
 
@@ -117,15 +119,15 @@ add-at c =
     let a = st .args in
     let R = now (a .profile) in
     let s = now (a .bits) in
-    let k = some-fields R (a .plan) (st .pre .0 .some) in
+    let k = some-fields R (a .plan) (st .pre .0 .ready .some) in
     let i = c .before .before .before .before .before .before .before .before .before .before .before .loop in
     let own = c .before .before .before .before .before .before .before .before .before .own-bits in
     let e = c .before .before .before .before .before .before .before .before .share-of in
     let order : i .r < a .plan .blocks = omega (arith, l) in
-    let mine = share-is R (a .plan) k (a .nl) (a .qm) (a .g .0) (i .r) (e .result .0) (ap (λ (x : CodedBits). x .0) (e .ensures)) in
-    let room = share-fits R (a .plan) k (a .nl) (a .qm) (a .g .0) (i .r) (i .at) (e .result .0) order (i .inv .3) mine in
+    let mine = share-is R (a .plan) k (a .terms) (a .g .0) (i .r) (e .result .0) (ap (λ (x : CodedBits). x .0) (e .ensures)) in
+    let room = share-fits R (a .plan) k (a .terms) (a .g .0) (i .r) (i .at) (e .result .0) order (i .inv .3) mine in
     let fits = own-fits R (a .plan) k (i .r) (i .start) (own .result) order (i .inv .1) (own .ensures) in
-    omega (arith, room, fits, k .cut .bits-high, st .pre .2 .most)
+    omega (arith, room, fits, k .cut .bits-high, st .pre .0 .allocated .most)
 
 add-r : tie.Need-add-r Inv-loop μ-loop
 add-r c = omega (arith, c .before .before .before .before .before .before .before .before .before .before)
@@ -140,22 +142,22 @@ loop-again c =
     let a = st .args in
     let R = now (a .profile) in
     let s = now (a .bits) in
-    let k = some-fields R (a .plan) (st .pre .0 .some) in
+    let k = some-fields R (a .plan) (st .pre .0 .ready .some) in
     let i = c .before .before .before .before .before .before .before .before .before .before .before .loop in
     let own = c .before .before .before .before .before .before .before .before .before .own-bits in
     let e = c .before .before .before .before .before .before .before .before .share-of in
     let order : i .r < a .plan .blocks = omega (arith, l) in
-    let mine = share-is R (a .plan) k (a .nl) (a .qm) (a .g .0) (i .r) (e .result .0) (ap (λ (x : CodedBits). x .0) (e .ensures)) in
+    let mine = share-is R (a .plan) k (a .terms) (a .g .0) (i .r) (e .result .0) (ap (λ (x : CodedBits). x .0) (e .ensures)) in
     let sent = c .before .before .before .before .before .send-block in
-    let f = blockSent R (a .plan .bits) s (a .nl) (a .qm) (a .g .0) in
+    let f = blockSent R (a .plan .bits) s (a .terms) (a .g .0) in
     let turn = start-turn R (a .plan .bits) (i .r) in
     let here = own-is R (a .plan) k (i .r) (own .result) (own .ensures) in
-    let written = sent .ensures ∙ ap (λ (x : List ℕ). x ++ drop (e .result .0) (take (length (i .out) - i .at) (drop (i .at) (i .out)))) (block-is R (a .plan) k (a .nl) (a .qm) (a .g .0) s (i .r) (i .start) (own .result) (e .result .0) (i .inv .1) (own .ensures) mine) in (
+    let written = sent .ensures ∙ ap (λ (x : List ℕ). x ++ drop (e .result .0) (take (length (i .out) - i .at) (drop (i .at) (i .out)))) (block-is R (a .plan) k (a .terms) (a .g .0) s (i .r) (i .start) (own .result) (e .result .0) (i .inv .1) (own .ensures) mine) in (
       omega (arith, order),
       omega (arith, turn, here, i .inv .1),
       omega (arith, sent .kept .1 .1 .1 .1 .1 .1 .0, i .inv .2),
-      share-turn R (a .plan) k (a .nl) (a .qm) (a .g .0) (i .r) (i .at) (e .result .0) (i .inv .3) mine,
-      joined-more f (now (a .out)) (i .out) (sent .last .1 .1 .1 .1 .1 .1 .1 .0) (i .r) (i .at) (e .result .0) (i .inv .4) (length-block R (a .plan) k (a .nl) (a .qm) (a .g .0) s (i .r) ∙ sym mine) written (c .before .before .out .given .1),
+      share-turn R (a .plan) k (a .terms) (a .g .0) (i .r) (i .at) (e .result .0) (i .inv .3) mine,
+      joined-more f (now (a .out)) (i .out) (sent .last .1 .1 .1 .1 .1 .1 .1 .0) (i .r) (i .at) (e .result .0) (i .inv .4) (length-block R (a .plan) k (a .terms) (a .g .0) s (i .r) ∙ sym mine) written (c .before .before .out .given .1),
     )
 
 same-length : tie.Need-same-length Inv-loop μ-loop
@@ -170,13 +172,17 @@ returns c =
     let a = st .args in
     let R = now (a .profile) in
     let s = now (a .bits) in
-    let k = some-fields R (a .plan) (st .pre .0 .some) in
+    let k = some-fields R (a .plan) (st .pre .0 .ready .some) in
     let i = c .before .loop in
     let all : blocks R (a .plan .bits) ≡ i .r = omega (arith, k .blocks-is, i .inv .0, c) in
-    let most = shares-fit (a .nl) (a .qm) (a .g .0) (blocks R (a .plan .bits)) in
-    let end : i .at ≡ sumBelow (blocks R (a .plan .bits)) (λ j. share (a .nl) (a .qm) (a .g .0) (blocks R (a .plan .bits)) j .0) = i .inv .3 ∙ ap (λ (n : ℕ). sumBelow n (λ j. share (a .nl) (a .qm) (a .g .0) (blocks R (a .plan .bits)) j .0)) (sym all) in
-    let f = blockSent R (a .plan .bits) s (a .nl) (a .qm) (a .g .0) in
-    (omega (arith, most, end), ap (λ (n : ℕ). length (joined n f)) all ∙ i .inv .4 .size, i .inv .4 .is ∙ ap (λ (n : ℕ). joined n f ++ drop (i .at) (now (a .out))) (sym all))
+    let most = shares-fit (a .terms) (a .g .0) (blocks R (a .plan .bits)) in
+    let end : i .at ≡ sumBelow (blocks R (a .plan .bits)) (λ j. share (a .terms) (a .g .0) (blocks R (a .plan .bits)) j .0) = i .inv .3 ∙ ap (λ (n : ℕ). sumBelow n (λ j. share (a .terms) (a .g .0) (blocks R (a .plan .bits)) j .0)) (sym all) in
+    let f = blockSent R (a .plan .bits) s (a .terms) (a .g .0) in
+    record {
+      most = omega (arith, most, end);
+      size = ap (λ (n : ℕ). length (joined n f)) all ∙ i .inv .4 .size;
+      output = i .inv .4 .is ∙ ap (λ (n : ℕ). joined n f ++ drop (i .at) (now (a .out))) (sym all);
+    }
 
 pub send-blocks-spec : {M : Type 1} → statement M
 send-blocks-spec =

@@ -1,13 +1,12 @@
 -- `coding::sending::send_in` meets its contract.
 use mathlib.Core.Path.{_≡_, refl, sym, _∙_}
 use mathlib.Core.Bool.{false, true≢false}
-use Prim.Native.Nat.{_-_}
 use native.Mathlib.Omega.{arith}
 use lib.ListN.{length-drop}
 use denote.Ref.{now}
 use borrow.Author.Tests.{not-true, not-false}
 use borrow.Author.Needs.{needs}
-use Rattle.profile.specs.Plan.{blocks}
+use Rattle.cutting.specs.Plan.{blocks}
 use Rattle.coding.specs.Blocks.{someWithoutParity}
 use Rattle.coding.specs.Joining.{blockSent, joined, radioBits}
 use Rattle.coding.proofs.Joining.{part-rest, padded-is}
@@ -15,7 +14,7 @@ use Rattle.coding.proofs.sending.send_in.Statement.{statement}
 use Rattle.coding.proofs.sending.send_in.Tie as tie
 
 all-have-parity-requires : tie.Need-all-have-parity-requires
-all-have-parity-requires c κs = search needs
+all-have-parity-requires c κs = let st = c .before .before .before .before .before in (st .pre .0 .ready, st .pre .1)
 
 same-length : tie.Need-same-length
 same-length c = search needs
@@ -31,28 +30,28 @@ send-blocks-requires : tie.Need-send-blocks-requires
 send-blocks-requires c κs =
     let st = c .before .before .before .before .before .before .before .before .before .before .before in
     let has = c .before .before .before .before .before .all-have-parity in
-    (st .pre .0, omega (arith, has .kept .1 .1 .1 .0, st .pre .1), st .pre .2, st .pre .3, not-true _ (sym (has .ensures) ∙ not-false _ (c .before .before .if1 .left)))
+    (st .pre .0, has .kept .1 .1 .1 .0 ∙ st .pre .1, not-true _ (sym (has .ensures) ∙ not-false _ (c .before .before .if1 .left)))
 
 sub-clear : tie.Need-sub-clear
-sub-clear c = omega (arith, c .before .before .before .before .send-blocks .ensures .0, c .before .before .before .before .send-blocks .kept .1 .1 .1 .1 .1 .1 .1 .0, c .before .before .before .before .before .before .before .before .before .before .before .before .before .before .before .before .pre .3)
+sub-clear c = omega (arith, c .before .before .before .before .send-blocks .ensures .most, c .before .before .before .before .send-blocks .kept .1 .1 .1 .1 .1 .1 .0, c .before .before .before .before .before .before .before .before .before .before .before .before .before .before .before .before .pre .0 .room)
 
 part-clear-start : tie.Need-part-clear-start
-part-clear-start c = omega (arith, c .before .before .before .before .send-blocks .ensures .0, c .before .before .before .before .send-blocks .kept .1 .1 .1 .1 .1 .1 .1 .0, c .before .before .before .before .before .before .before .before .before .before .before .before .before .before .before .before .pre .3)
+part-clear-start c = omega (arith, c .before .before .before .before .send-blocks .ensures .most, c .before .before .before .before .send-blocks .kept .1 .1 .1 .1 .1 .1 .0, c .before .before .before .before .before .before .before .before .before .before .before .before .before .before .before .before .pre .0 .room)
 
 part-clear-end : tie.Need-part-clear-end
 part-clear-end c = search needs
 
 sub-clear-2 : tie.Need-sub-clear-2
-sub-clear-2 c = omega (arith, c .before .before .before .before .before .send-blocks .ensures .0)
+sub-clear-2 c = omega (arith, c .before .before .before .before .before .send-blocks .ensures .most)
 
 clear-requires : tie.Need-clear-requires
-clear-requires c κs = rw part-rest (simp length-drop (omega (arith, c .before .before .before .before .before .send-blocks .ensures .0, c .before .before .before .before .before .send-blocks .kept .1 .1 .1 .1 .1 .1 .1 .0, c .before .before .before .before .before .before .before .before .before .before .before .before .before .before .before .before .before .pre .3)))
+clear-requires c κs = rw part-rest (simp length-drop (omega (arith, c .before .before .before .before .before .send-blocks .ensures .most, c .before .before .before .before .before .send-blocks .kept .1 .1 .1 .1 .1 .1 .0, c .before .before .before .before .before .before .before .before .before .before .before .before .before .before .before .before .before .pre .0 .room)))
 
 same-length-2 : tie.Need-same-length-2
 same-length-2 c = search needs
 
 same-length-3 : tie.Need-same-length-3
-same-length-3 c = c .before .out2 .given .1 ∙ c .before .before .before .before .before .before .before .before .send-blocks .kept .1 .1 .1 .1 .1 .1 .1 .0
+same-length-3 c = c .before .out2 .given .1 ∙ c .before .before .before .before .before .before .before .before .send-blocks .kept .1 .1 .1 .1 .1 .1 .0
 
 returns-2 : tie.Need-returns-2
 unfolding radioBits
@@ -62,8 +61,8 @@ returns-2 c =
     let has = c .before .before .before .before .before .before .before .before .before .before .before .before .before .before .all-have-parity in
     let none : someWithoutParity (now (a .profile)) (a .plan .bits) (now (a .bits)) ≡ false = not-true _ (sym (has .ensures) ∙ not-false _ (c .before .before .before .before .before .before .before .before .before .before .before .if1 .left)) in
     let sent = c .before .before .before .before .before .before .before .before .send-blocks in
-    let p = joined (blocks (now (a .profile)) (a .plan .bits)) (blockSent (now (a .profile)) (a .plan .bits) (now (a .bits)) (a .nl) (a .qm) (a .g .0)) in
-    let whole = padded-is (a .g .0) (sent .result) p (now (a .out)) (sent .last .1 .1 .1 .1 .1 .1 .1 .0) (c .before .before .clear .last .0) (sent .ensures .2) (sent .ensures .1) (sent .ensures .0) (c .before .before .clear .ensures) in
+    let p = joined (blocks (now (a .profile)) (a .plan .bits)) (blockSent (now (a .profile)) (a .plan .bits) (now (a .bits)) (a .terms) (a .g .0)) in
+    let whole = padded-is (a .g .0) (sent .result) p (now (a .out)) (sent .last .1 .1 .1 .1 .1 .1 .0) (c .before .before .clear .last .0) (sent .ensures .output) (sent .ensures .size) (sent .ensures .most) (c .before .before .clear .ensures) in
     record { done = λ e. (refl, refl, whole); refused = λ e. absurd (true≢false (sym e ∙ none)) }
 
 pub send-in-spec : {M : Type 1} → statement M

@@ -1,5 +1,5 @@
--- `desk::plan::rows` meets its contract. The loop's invariant: the page keeps its length, and the text lies within it.
-use Prim.Native.Nat.{_-_, _≤_}
+-- `desk::plan::rows` meets its contract. The loop's invariant: the page keeps its length.
+use Prim.Native.Nat.{_-_}
 use mathlib.Core.Path.{_≡_}
 use lib.ListN.{length}
 use borrow.Author.Needs.{needs}
@@ -7,7 +7,7 @@ use Rattle.desk.proofs.plan.rows.Statement.{statement}
 use Rattle.desk.proofs.plan.rows.Tie as tie
 
 abbrev Inv-loop : tie.InvT-loop
-Inv-loop profile plan octets page₀ from at₀ r₀ page at r = (length page ≡ length page₀) × (at ≤ length page)
+Inv-loop profile plan octets page₀ from at₀ r₀ page at r = length page ≡ length page₀
 
 abbrev μ-loop : tie.MeasureT-loop
 μ-loop profile plan octets page₀ from at₀ r₀ page at r = plan .blocks - r

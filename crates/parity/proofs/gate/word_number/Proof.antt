@@ -10,21 +10,15 @@ judge-requires c κs = search needs
 returns : tie.Need-returns
 returns c = word-judged _ _ _ _ (c .before .judge .ensures) (c .if1 .taken)
 
-kb-requires : tie.Need-kb-requires
-kb-requires c κs = search needs
-
-m-requires : tie.Need-m-requires
-m-requires c κs = search needs
-
-add-n : tie.Need-add-n
-add-n c = search needs
+columns-requires : tie.Need-columns-requires
+columns-requires c κs = search needs
 
 is-unfit-requires : tie.Need-is-unfit-requires
 is-unfit-requires c κs = search needs
 
 returns-2 : tie.Need-returns-2
 returns-2 c =
-    word-8 _ _ _ _ (c .before .before .before .before .before .judge .ensures) (c .before .before .before .before .if1 .left) _ _ (c .before .before .before .kb .ensures .0) (c .before .before .m .ensures .0) _ (c .before .is-unfit .ensures)
+    word-8 _ _ _ _ (c .before .before .before .before .judge .ensures) (c .before .before .before .if1 .left) _ (c .before .before .columns .ensures .0) _ (c .before .is-unfit .ensures)
     (c .if2 .taken)
 
 some-over-requires : tie.Need-some-over-requires
@@ -32,12 +26,12 @@ some-over-requires c κs = search needs
 
 returns-3 : tie.Need-returns-3
 returns-3 c =
-    word-12 _ _ _ _ (c .before .before .before .before .before .before .before .judge .ensures) (c .before .before .before .before .before .before .if1 .left) _ _ (c .before .before .before .before .before .kb .ensures .0) (c .before .before .before .before .m .ensures .0) _ (c .before .before .before .is-unfit .ensures)
+    word-12 _ _ _ _ (c .before .before .before .before .before .before .judge .ensures) (c .before .before .before .before .before .if1 .left) _ (c .before .before .before .before .columns .ensures .0) _ (c .before .before .before .is-unfit .ensures)
     (c .before .before .if2 .left) _ (c .before .some-over .ensures) (c .if3 .taken)
 
 returns-4 : tie.Need-returns-4
 returns-4 c =
-    word-0 _ _ _ _ (c .before .before .before .before .before .before .before .judge .ensures) (c .before .before .before .before .before .before .if1 .left) _ _ (c .before .before .before .before .before .kb .ensures .0) (c .before .before .before .before .m .ensures .0) _ (c .before .before .before .is-unfit .ensures)
+    word-0 _ _ _ _ (c .before .before .before .before .before .before .judge .ensures) (c .before .before .before .before .before .if1 .left) _ (c .before .before .before .before .columns .ensures .0) _ (c .before .before .before .is-unfit .ensures)
     (c .before .before .if2 .left) _ (c .before .some-over .ensures) (c .if3 .left)
 
 pub word-number-spec : {M : Type 1} → statement M
@@ -46,9 +40,7 @@ word-number-spec =
     (tie.spec
     judge-requires
     returns
-    kb-requires
-    m-requires
-    add-n
+    columns-requires
     is-unfit-requires
     returns-2
     some-over-requires

@@ -12,25 +12,22 @@ use Rattle.parity.proofs.inner.checks.Tie as tie
 mul-n : tie.Need-mul-n
 mul-n c =
     let shape = c .before .before .pre .0 in
-    omega (arith, shape .z-most, mul-le-mul (shape .m-most) (shape .z-most))
-
-add-are-even : tie.Need-add-are-even
-add-are-even c = omega (arith, c .before .before .pre .0 .columns-most)
+    omega (arith, shape .z-most, mul-le-mul (shape .rows-most) (shape .z-most))
 
 array-borrow-prefix-room : tie.Need-array-borrow-prefix-room
 array-borrow-prefix-room c =
     let shape = c .before .before .pre .0 in
-    omega (arith, shape .z-most, mul-le-mul (shape .m-most) (shape .z-most))
+    omega (arith, shape .z-most, mul-le-mul (shape .rows-most) (shape .z-most))
 
 slice-aggregate-are-even : tie.Need-slice-aggregate-are-even
 slice-aggregate-are-even c =
     let shape = c .before .before .before .pre .0 in
-    sym (length-take-le _ (replicate 972 0) (omega (arith, shape .z-most, mul-le-mul (shape .m-most) (shape .z-most))))
+    sym (length-take-le _ (replicate 972 0) (omega (arith, shape .z-most, mul-le-mul (shape .rows-most) (shape .z-most))))
 
 are-even-requires : tie.Need-are-even-requires
 are-even-requires c κs =
     let pre = c .before .before .before .pre in
-    (pre .0, pre .1, sums-room _ _ _ _ _ (pre .0))
+    record { shape = pre .0; long = pre .1; sums = sums-room _ _ _ _ _ (pre .0) }
 
 returns : tie.Need-returns
 returns c = search needs
@@ -40,7 +37,6 @@ checks-spec =
     tie.close
     (tie.spec
     mul-n
-    add-are-even
     array-borrow-prefix-room
     slice-aggregate-are-even
     are-even-requires

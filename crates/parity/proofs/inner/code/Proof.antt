@@ -10,22 +10,24 @@ use Rattle.parity.proofs.inner.code.Statement.{statement}
 use Rattle.parity.proofs.inner.code.Tie as tie
 
 mul-used : tie.Need-mul-used
-mul-used c = search needs
+mul-used c =
+    let shape = c .before .before .pre .shape in
+    omega (arith, shape .z-most, mul-le-mul (shape .rows-most) (shape .z-most))
 
 array-borrow-prefix-room : tie.Need-array-borrow-prefix-room
 array-borrow-prefix-room c =
-    let shape = c .before .before .before .pre .0 in
-    omega (arith, shape .z-most, mul-le-mul (shape .m-most) (shape .z-most))
+    let shape = c .before .before .before .pre .shape in
+    omega (arith, shape .z-most, mul-le-mul (shape .rows-most) (shape .z-most))
 
 slice-aggregate-solve : tie.Need-slice-aggregate-solve
 slice-aggregate-solve c =
-    let shape = c .before .before .before .before .pre .0 in
-    sym (length-take-le _ (replicate 972 0) (omega (arith, shape .z-most, mul-le-mul (shape .m-most) (shape .z-most))))
+    let shape = c .before .before .before .before .pre .shape in
+    sym (length-take-le _ (replicate 972 0) (omega (arith, shape .z-most, mul-le-mul (shape .rows-most) (shape .z-most))))
 
 solve-requires : tie.Need-solve-requires
 solve-requires c κs =
     let pre = c .before .before .before .before .pre in
-    (pre .0, pre .1, sums-room _ _ _ _ _ (pre .0))
+    (pre, sums-room _ _ _ _ _ (pre .shape))
 
 same-length : tie.Need-same-length
 same-length c = search needs

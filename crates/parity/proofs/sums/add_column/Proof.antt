@@ -10,39 +10,40 @@ use Rattle.parity.proofs.sums.add_column.Statement.{statement}
 use Rattle.parity.proofs.sums.add_column.Tie as tie
 
 abbrev Inv-loop : tie.InvT-loop
-Inv-loop table m columns z j word g sums₀ at₀ e₀ i₀ sums at e i =
-    Sums table m columns z word j i sums × (i ≤ m) × (at ≡ i * z) × (e ≡ i * columns + j)
+Inv-loop table rows columns z j word g sums₀ at₀ e₀ i₀ sums at e i =
+    Sums table rows columns z word j i sums × (i ≤ rows) × (at ≡ i * z) × (e ≡ i * columns + j)
 
 abbrev μ-loop : tie.MeasureT-loop
-μ-loop table m columns z j word g sums₀ at₀ e₀ i₀ sums at e i = m - i
+μ-loop table rows columns z j word g sums₀ at₀ e₀ i₀ sums at e i = rows - i
 
 mul-double : tie.Need-mul-double Inv-loop μ-loop
 mul-double c =
     let st = c .before .before .before .before in
-    omega (arith, group-in (st .args .j) (st .args .columns) (st .args .z) (st .pre .1), st)
+    omega (arith, group-in (st .args .j) (st .args .columns) (st .args .z) (st .pre .1), st .pre .0 .long, st)
 
 double-requires : tie.Need-double-requires Inv-loop μ-loop
 double-requires c κs =
     let st = c .before .before .before .before .before in
-    let shape = st .pre .0 in
-    (shape .z-some, omega (arith, group-in (st .args .j) (st .args .columns) (st .args .z) (st .pre .1), st), omega (arith, shape .z-most, st), st .pre .4)
+    let shape = st .pre .0 .shape in
+    let room = group-in (st .args .j) (st .args .columns) (st .args .z) (st .pre .1) in
+    (shape .z-some, omega (arith, room, st .pre .0 .long), omega (arith, shape .z-most, st .pre .2), st .pre .3)
 
 loop-holds : tie.Need-loop-holds Inv-loop μ-loop
-loop-holds c = (c .before .before .before .before .before .before .before .before .pre .5, search needs, search needs, search needs)
+loop-holds c = (c .before .before .before .before .before .before .before .before .pre .0 .sums, search needs, search needs, search needs)
 
 shared-slice-read-add-entry : tie.Need-shared-slice-read-add-entry Inv-loop μ-loop
 shared-slice-read-add-entry c =
     let st = c .before .before .before .before .before .before .before .before .before .before .before in
-    omega (arith, group-in (c .before .before .loop .i) (st .args .m) (st .args .columns) (search needs), st .pre .0 .size, st .pre .1)
+    omega (arith, group-in (c .before .before .loop .i) (st .args .rows) (st .args .columns) (search needs), st .pre .0 .shape .size, st .pre .1)
 
 add-entry-requires : tie.Need-add-entry-requires Inv-loop μ-loop
 add-entry-requires c κs =
     let st = c .before .before .before .before .before .before .before .before .before .before .before .before .before in
     let l = c .before .before .before .before .loop in
     let d = c .before .before .before .before .before .before .before .double in (
-      st .pre .0 .shifts (l .e),
-      omega (arith, st .pre .0 .z-most, st .pre .3, d .kept .1 .1 .1 .0),
-      omega (arith, group-in (l .i) (st .args .m) (st .args .z) (search needs), l .inv .2, l .inv .0 .size),
+      st .pre .0 .shape .shifts (l .e),
+      omega (arith, st .pre .0 .shape .z-most, st .pre .2, d .kept .1 .1 .1 .0),
+      omega (arith, group-in (l .i) (st .args .rows) (st .args .z) (search needs), l .inv .2, l .inv .0 .size),
       d .ensures .bits,
       l .inv .0 .bits,
     )
@@ -51,17 +52,17 @@ add-at : tie.Need-add-at Inv-loop μ-loop
 add-at c =
     let st = c .before .before .before .before .before .before .before .before .before .before .before .before .before .before .before .before in
     let l = c .before .before .before .before .before .before .before .loop in
-    omega (arith, group-in (l .i) (st .args .m) (st .args .z) (search needs), l .inv .2, mul-le-mul (st .pre .0 .m-most) (st .pre .0 .z-most))
+    omega (arith, group-in (l .i) (st .args .rows) (st .args .z) (search needs), l .inv .2, mul-le-mul (st .pre .0 .shape .rows-most) (st .pre .0 .shape .z-most))
 
 add-e : tie.Need-add-e Inv-loop μ-loop
 add-e c =
     let st = c .before .before .before .before .before .before .before .before .before .before .before .before .before .before .before .before in
     let l = c .before .before .before .before .before .before .before .loop in
-    let shape = st .pre .0 in
-    omega (arith, group-in (l .i) (st .args .m) (st .args .columns) (search needs), l .inv .3, st .pre .1, shape .columns-most, mul-le-mul (shape .m-most) (shape .columns-most))
+    let shape = st .pre .0 .shape in
+    omega (arith, group-in (l .i) (st .args .rows) (st .args .columns) (search needs), l .inv .3, st .pre .1, shape .columns-most, mul-le-mul (shape .rows-most) (shape .columns-most))
 
 add-i : tie.Need-add-i Inv-loop μ-loop
-add-i c = omega (arith, c .before .before .before .before .before .before .before .before .before .before .before .before .before .before .before .before .pre .0 .m-most)
+add-i c = omega (arith, c .before .before .before .before .before .before .before .before .before .before .before .before .before .before .before .before .pre .0 .shape .rows-most)
 
 loop-less : tie.Need-loop-less Inv-loop μ-loop
 loop-less c = search needs
@@ -71,7 +72,7 @@ loop-again c =
     let st = c .before .before .before .before .before .before .before .before .before .before .before .before .before .before .before .before in
     let u = c .before .before .before .before .before .before .before in
     let l = u .loop in (
-      sums-row _ _ _ _ _ (st .pre .0) (c .before .before .before .before .before .before .before .before .before .before .double .ensures) (search needs) (search needs) (l .inv .2) (l .inv .3) (l .inv .0) (c .before .before .add-entry .ensures),
+      sums-row _ _ _ _ _ (st .pre .0 .shape) (c .before .before .before .before .before .before .before .before .before .before .double .ensures) (search needs) (search needs) (l .inv .2) (l .inv .3) (l .inv .0) (c .before .before .add-entry .ensures),
       search needs,
       omega (arith, group-next (l .i) (st .args .z), l .inv .2),
       omega (arith, group-next (l .i) (st .args .columns), l .inv .3),
@@ -81,7 +82,7 @@ same-length : tie.Need-same-length Inv-loop μ-loop
 same-length c = search needs
 
 same-length-2 : tie.Need-same-length-2 Inv-loop μ-loop
-same-length-2 c = omega (arith, c .before .loop .inv .0 .size, c .before .before .before .before .before .before .before .before .before .before .pre .5 .size)
+same-length-2 c = omega (arith, c .before .loop .inv .0 .size, c .before .before .before .before .before .before .before .before .before .before .pre .0 .sums .size)
 
 returns : tie.Need-returns Inv-loop μ-loop
 returns c = (c .before .before .before .before .double .ensures .bits, sums-column _ _ _ _ _ (search needs) (c .before .loop .inv .0))

@@ -12,14 +12,14 @@ use Rattle.parity.proofs.sums.add_columns.Statement.{statement}
 use Rattle.parity.proofs.sums.add_columns.Tie as tie
 
 abbrev Inv-loop : tie.InvT-loop
-Inv-loop table m columns z from to word sums₀ g₀ j₀ sums g j =
-    (j ≤ to) × (length g ≡ 162) × AreBits g × Sums table m columns z word j 0 sums
+Inv-loop table rows columns z from to word sums₀ g₀ j₀ sums g j =
+    (j ≤ to) × (length g ≡ 162) × AreBits g × Sums table rows columns z word j 0 sums
 
 abbrev μ-loop : tie.MeasureT-loop
-μ-loop table m columns z from to word sums₀ g₀ j₀ sums g j = to - j
+μ-loop table rows columns z from to word sums₀ g₀ j₀ sums g j = to - j
 
 loop-holds : tie.Need-loop-holds Inv-loop μ-loop
-loop-holds c = (c .before .before .before .pre .1, refl, bits-zeros 162, c .before .before .before .pre .4)
+loop-holds c = (c .before .before .before .pre .1, refl, bits-zeros 162, c .before .before .before .pre .0 .sums)
 
 slice-aggregate-add-column : tie.Need-slice-aggregate-add-column Inv-loop μ-loop
 slice-aggregate-add-column c = sym (c .before .before .loop .inv .1)
@@ -28,7 +28,8 @@ add-column-requires : tie.Need-add-column-requires Inv-loop μ-loop
 add-column-requires c κs =
     let pre = c .before .before .before .before .before .before .before .pre in
     let l = c .before .before .before .loop in
-    (pre .0, omega (arith, pre .2), pre .3, l .inv .1, l .inv .2, l .inv .3)
+    let start = pre .0 in
+    (record { shape = start .shape; long = start .long; sums = l .inv .3 }, omega (arith, pre .2), l .inv .1, l .inv .2)
 
 add-j : tie.Need-add-j Inv-loop μ-loop
 add-j c = search needs
@@ -43,7 +44,7 @@ loop-again c =
     (search needs, omega (arith, a .kept .1 .1 .1 .1 .1 .1 .0, l .inv .1), a .ensures .0, a .ensures .1)
 
 same-length : tie.Need-same-length Inv-loop μ-loop
-same-length c = omega (arith, c .before .loop .inv .3 .size, c .before .before .before .before .before .pre .4 .size)
+same-length c = omega (arith, c .before .loop .inv .3 .size, c .before .before .before .before .before .pre .0 .sums .size)
 
 returns : tie.Need-returns Inv-loop μ-loop
 returns c = sums-all _ _ _ _ _ (c .before .loop .inv .0) (search needs) (c .before .loop .inv .3)

@@ -1,5 +1,5 @@
 -- `profile::form::shifts_right` meets its contract. The loop's invariant: every entry passed is right.
-use mathlib.Core.Path.{_≡_, sym}
+use mathlib.Core.Path.{_≡_, sym, _∙_}
 use mathlib.Core.Bool.{true, false}
 use Prim.Native.Nat.{ℕ, _-_, _≤_, _<_}
 use native.Mathlib.Omega.{arith}
@@ -33,7 +33,7 @@ returns c =
     let a = c .before .before .before .before .before .before .args in
     let T = now (a .table) in
     let k = c .before .before .before .before .loop .k in
-    let wrong : shiftRight (a .z) (getD T k 0) ≡ false = cc (not-true (c .before .shift-right .result) (c .if1 .taken)) in
+    let wrong : shiftRight (a .z) (getD T k 0) ≡ false = sym (c .before .shift-right .ensures) ∙ not-true _ (c .if1 .taken) in
     sym (all-fails (length T) (λ j. shiftRight (a .z) (getD T j 0)) k (search needs) wrong)
 
 add-k : tie.Need-add-k Inv-loop μ-loop
@@ -47,7 +47,7 @@ loop-again c =
     let a = c .before .before .before .before .before .before .args in
     let T = now (a .table) in
     let l = c .before .before .before .before .loop in
-    let right : shiftRight (a .z) (getD T (l .k) 0) ≡ true = cc (not-false (c .before .shift-right .result) (c .if1 .left)) in
+    let right : shiftRight (a .z) (getD T (l .k) 0) ≡ true = sym (c .before .shift-right .ensures) ∙ not-false _ (c .if1 .left) in
     (search needs, below-more (λ (j : ℕ). shiftRight (a .z) (getD T j 0) ≡ true) (l .k) (l .inv .1) right)
 
 returns-2 : tie.Need-returns-2 Inv-loop μ-loop

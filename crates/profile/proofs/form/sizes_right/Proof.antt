@@ -1,5 +1,5 @@
 -- `profile::form::sizes_right` meets its contract. The loop's invariant: every size passed is right.
-use mathlib.Core.Path.{_≡_, sym}
+use mathlib.Core.Path.{_≡_, sym, _∙_}
 use mathlib.Core.Bool.{true, false}
 use Prim.Native.Nat.{ℕ, _-_, _≤_, _<_}
 use native.Mathlib.Omega.{arith}
@@ -36,7 +36,7 @@ returns : tie.Need-returns Inv-loop μ-loop
 returns c =
     let R = now (c .before .before .before .before .before .before .args .profile) in
     let i = c .before .before .before .loop .i in
-    let wrong : sizeRight R i ≡ false = cc (not-true (c .before .size-right .result) (c .if1 .taken)) in
+    let wrong : sizeRight R i ≡ false = sym (c .before .size-right .ensures) ∙ not-true _ (c .if1 .taken) in
     sym (all-fails (t R) (sizeRight R) i (search needs) wrong)
 
 add-i : tie.Need-add-i Inv-loop μ-loop
@@ -49,7 +49,7 @@ loop-again : tie.Need-loop-again Inv-loop μ-loop
 loop-again c =
     let R = now (c .before .before .before .before .before .before .args .profile) in
     let l = c .before .before .before .loop in
-    let right : sizeRight R (l .i) ≡ true = cc (not-false (c .before .size-right .result) (c .if1 .left)) in
+    let right : sizeRight R (l .i) ≡ true = sym (c .before .size-right .ensures) ∙ not-false _ (c .if1 .left) in
     (search needs, below-more (λ (k : ℕ). sizeRight R k ≡ true) (l .i) (l .inv .1) right)
 
 returns-2 : tie.Need-returns-2 Inv-loop μ-loop

@@ -20,7 +20,7 @@ returns c =
     let R = now (c .before .before .before .before .args .profile) in
     let long = table-long R (shape-is R (c .before .before .before .before .pre .0)) (a .i) (c .before .before .before .before .pre .1) in
     let u = c .before in
-    cc (table-test R (a .i) (u .before .z .result) (now (u .table .result)) (u .table .ensures .0) (u .before .z .ensures .0) long)
+    cc (table-test R (a .i) (u .before .z .result) (now (u .table .result)) (u .table .ensures .same) (u .before .z .ensures .0) long)
 
 pub table-right-spec : {M : Type 1} → statement M
 table-right-spec = tie.close (tie.spec z-requires table-requires shifts-right-requires returns)

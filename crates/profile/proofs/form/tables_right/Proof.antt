@@ -1,5 +1,5 @@
 -- `profile::form::tables_right` meets its contract. The loop's invariant: the entries of every table passed are right.
-use mathlib.Core.Path.{_≡_, sym}
+use mathlib.Core.Path.{_≡_, sym, _∙_}
 use mathlib.Core.Bool.{true, false}
 use Prim.Native.Nat.{ℕ, _-_, _≤_, _<_}
 use native.Mathlib.Omega.{arith}
@@ -32,7 +32,7 @@ returns : tie.Need-returns Inv-loop μ-loop
 returns c =
     let R = now (c .before .before .before .before .before .before .args .profile) in
     let i = c .before .before .before .loop .i in
-    let wrong : tableRight R i ≡ false = cc (not-true (c .before .table-right .result) (c .if1 .taken)) in
+    let wrong : tableRight R i ≡ false = sym (c .before .table-right .ensures) ∙ not-true _ (c .if1 .taken) in
     sym (all-fails (t R) (tableRight R) i (search needs) wrong)
 
 add-i : tie.Need-add-i Inv-loop μ-loop
@@ -45,7 +45,7 @@ loop-again : tie.Need-loop-again Inv-loop μ-loop
 loop-again c =
     let R = now (c .before .before .before .before .before .before .args .profile) in
     let l = c .before .before .before .loop in
-    let right : tableRight R (l .i) ≡ true = cc (not-false (c .before .table-right .result) (c .if1 .left)) in
+    let right : tableRight R (l .i) ≡ true = sym (c .before .table-right .ensures) ∙ not-false _ (c .if1 .left) in
     (search needs, below-more (λ (k : ℕ). tableRight R k ≡ true) (l .i) (l .inv .1) right)
 
 returns-2 : tie.Need-returns-2 Inv-loop μ-loop

@@ -1,5 +1,5 @@
 -- `profile::inner::index_of` meets its contract. The loop's invariant: no size passed is the one that is wanted.
-use mathlib.Core.Path.{_≡_, sym}
+use mathlib.Core.Path.{_≡_, ap, sym, _∙_}
 use mathlib.Core.Bool.{true, false}
 use Prim.Native.Nat.{ℕ, _-_, _≤_, _<_}
 use native.Mathlib.Omega.{arith}
@@ -33,7 +33,7 @@ returns c =
     let R = now (c .before .before .before .before .before .before .args .profile) in
     let wanted = c .before .before .before .before .before .before .args .wanted in
     let l = c .before .before .before .loop in
-    let same : eqb (z R (l .i)) wanted ≡ true = cc (eq-eqb (c .before .z .result) wanted (c .if1 .taken)) in
+    let same : eqb (z R (l .i)) wanted ≡ true = ap (λ (n : ℕ). eqb n wanted) (sym (c .before .z .ensures .0)) ∙ eq-eqb _ _ (c .if1 .taken) in
     sym (first-is (t R) (λ j. eqb (z R j) wanted) (l .i) (record { below = search needs; holds = same; none = l .inv .1 }))
 
 add-i : tie.Need-add-i Inv-loop μ-loop
@@ -47,7 +47,7 @@ loop-again c =
     let R = now (c .before .before .before .before .before .before .args .profile) in
     let wanted = c .before .before .before .before .before .before .args .wanted in
     let l = c .before .before .before .loop in
-    let other : eqb (z R (l .i)) wanted ≡ false = cc (ne-eqb (c .before .z .result) wanted (c .if1 .left)) in
+    let other : eqb (z R (l .i)) wanted ≡ false = ap (λ (n : ℕ). eqb n wanted) (sym (c .before .z .ensures .0)) ∙ ne-eqb _ _ (c .if1 .left) in
     (search needs, below-more (λ (j : ℕ). eqb (z R j) wanted ≡ false) (l .i) (l .inv .1) other)
 
 returns-2 : tie.Need-returns-2 Inv-loop μ-loop

@@ -46,7 +46,7 @@ returns c =
     let size = c .before .table-size .result in
     let long : start + size - start ≡ size = omega arith in
     let part : take (start + size - start) (drop start R) ≡ take (tableSize R) (drop (offset R (s .args .i)) R) = cc long in
-    (part, rw part (table-sized R (shaped s) (s .args .i) (s .pre .1)))
+    record { same = part; sized = rw part (table-sized R (shaped s) (s .args .i) (s .pre .1)) }
 
 pub table-spec : {M : Type 1} → statement M
 table-spec =

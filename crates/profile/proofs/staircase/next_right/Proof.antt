@@ -1,8 +1,9 @@
 -- `profile::staircase::next_right` meets its contract. The loop's invariant: every column passed holds what it is due.
-use mathlib.Core.Path.{_≡_, sym}
+use mathlib.Core.Path.{_≡_, ap, sym, _∙_}
 use mathlib.Core.Bool.{true, false}
 use Prim.Native.Nat.{ℕ, suc, _+_, _-_, _*_, _≤_, _<_}
 use native.Mathlib.Omega.{arith}
+use lib.Dec.{eqb}
 use lib.ListN.{length, getD}
 use denote.Ref.{now}
 use borrow.Author.Count.{below-more}
@@ -15,28 +16,25 @@ use Rattle.profile.proofs.staircase.next_right.Statement.{statement}
 use Rattle.profile.proofs.staircase.next_right.Tie as tie
 
 abbrev Inv-loop : tie.InvT-loop
-Inv-loop table kb m row first n j₀ j = (j ≤ n) × ((k : ℕ) → k < j → nextRight table kb m row k ≡ true)
+Inv-loop table kb m columns row first n j₀ j = (j ≤ n) × ((k : ℕ) → k < j → nextRight table kb columns row k ≡ true)
 
 abbrev μ-loop : tie.MeasureT-loop
-μ-loop table kb m row first n j₀ j = n - j
+μ-loop table kb m columns row first n j₀ j = n - j
 
 place : (c : tie.Start Inv-loop μ-loop) (j : ℕ) → suc j < c .args .m
-    → c .args .row * (c .args .kb + c .args .m) + c .args .kb + 1 + j < length (now (c .args .table))
+    → c .args .row * c .args .columns + c .args .kb + 1 + j < length (now (c .args .table))
 place c j l =
     let a = c .args in
-    omega (arith, c .pre .0 .size, row-inside (a .kb) (a .m) (a .row) (a .kb + 1 + j) (c .pre .1) (omega arith))
-
-add-first : tie.Need-add-first Inv-loop μ-loop
-add-first c = omega (arith, c .before .pre .0)
+    omega (arith, c .pre .0 .size, row-inside (a .m) (a .columns) (a .row) (a .kb + 1 + j) (c .pre .1) (omega (arith, c .pre .0 .wide)))
 
 mul-first : tie.Need-mul-first Inv-loop μ-loop
 mul-first c = omega (arith, place (c .before) 0 (omega arith), c .before .good)
 
+add-first : tie.Need-add-first Inv-loop μ-loop
+add-first c = omega (arith, place (c .before) 0 (omega arith), c .before .good)
+
 add-first-2 : tie.Need-add-first-2 Inv-loop μ-loop
 add-first-2 c = omega (arith, place (c .before) 0 (omega arith), c .before .good)
-
-add-first-3 : tie.Need-add-first-3 Inv-loop μ-loop
-add-first-3 c = omega (arith, place (c .before) 0 (omega arith), c .before .good)
 
 sub-n : tie.Need-sub-n Inv-loop μ-loop
 sub-n c = omega (arith, c .before .pre .0)
@@ -61,10 +59,10 @@ returns c =
     let a = c .before .before .before .before .before .before .args in
     let T = now (a .table) in
     let j = c .before .before .before .before .loop .j in
-    let entry = getD T (a .row * (a .kb + a .m) + a .kb + 1 + j) 0 in
-    let wrong : nextRight T (a .kb) (a .m) (a .row) j ≡ false =
-    cc (next-at T (a .kb) (a .m) (a .row) j, ne-eqb entry (c .before .next-due .result) (c .if1 .taken)) in
-    sym (all-fails (a .m - 1) (nextRight T (a .kb) (a .m) (a .row)) j (search needs) wrong)
+    let entry = getD T (a .row * a .columns + a .kb + 1 + j) 0 in
+    let wrong : nextRight T (a .kb) (a .columns) (a .row) j ≡ false =
+    next-at T (a .kb) (a .columns) (a .row) j ∙ ap (eqb entry) (sym (c .before .next-due .ensures)) ∙ ne-eqb _ _ (c .if1 .taken) in
+    sym (all-fails (a .m - 1) (nextRight T (a .kb) (a .columns) (a .row)) j (search needs) wrong)
 
 add-j : tie.Need-add-j Inv-loop μ-loop
 add-j c = search needs
@@ -77,15 +75,15 @@ loop-again c =
     let a = c .before .before .before .before .before .before .args in
     let T = now (a .table) in
     let l = c .before .before .before .before .loop in
-    let entry = getD T (a .row * (a .kb + a .m) + a .kb + 1 + l .j) 0 in
-    let right : nextRight T (a .kb) (a .m) (a .row) (l .j) ≡ true =
-    cc (next-at T (a .kb) (a .m) (a .row) (l .j), eq-eqb entry (c .before .next-due .result) (c .if1 .left)) in
-    (search needs, below-more (λ (k : ℕ). nextRight T (a .kb) (a .m) (a .row) k ≡ true) (l .j) (l .inv .1) right)
+    let entry = getD T (a .row * a .columns + a .kb + 1 + l .j) 0 in
+    let right : nextRight T (a .kb) (a .columns) (a .row) (l .j) ≡ true =
+    next-at T (a .kb) (a .columns) (a .row) (l .j) ∙ ap (eqb entry) (sym (c .before .next-due .ensures)) ∙ eq-eqb _ _ (c .if1 .left) in
+    (search needs, below-more (λ (k : ℕ). nextRight T (a .kb) (a .columns) (a .row) k ≡ true) (l .j) (l .inv .1) right)
 
 returns-2 : tie.Need-returns-2 Inv-loop μ-loop
 returns-2 c =
     let a = c .before .before .before .args in
-    sym (all-of (a .m - 1) (nextRight (now (a .table)) (a .kb) (a .m) (a .row)) (λ k l. c .before .loop .inv .1 k (omega arith)))
+    sym (all-of (a .m - 1) (nextRight (now (a .table)) (a .kb) (a .columns) (a .row)) (λ k l. c .before .loop .inv .1 k (omega arith)))
 
 pub next-right-spec : {M : Type 1} → statement M
 next-right-spec =
@@ -93,10 +91,9 @@ next-right-spec =
     (tie.spec
     Inv-loop
     μ-loop
-    add-first
     mul-first
+    add-first
     add-first-2
-    add-first-3
     sub-n
     loop-holds
     add-if1

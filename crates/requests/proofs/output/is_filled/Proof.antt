@@ -6,19 +6,16 @@ use Rattle.requests.proofs.output.is_filled.Statement.{statement}
 use Rattle.requests.proofs.output.is_filled.Tie as tie
 
 abbrev Inv-loop : tie.InvT-loop
-Inv-loop part i₀ i = i ≤ length part
+Inv-loop part other₀ i₀ other i = i ≤ length part
 
 abbrev μ-loop : tie.MeasureT-loop
-μ-loop part i₀ i = length part - i
+μ-loop part other₀ i₀ other i = length part - i
 
 loop-holds : tie.Need-loop-holds Inv-loop μ-loop
 loop-holds c = search needs
 
-shared-slice-read-if1 : tie.Need-shared-slice-read-if1 Inv-loop μ-loop
-shared-slice-read-if1 c = search needs
-
-returns : tie.Need-returns Inv-loop μ-loop
-returns c = search needs
+shared-slice-read-other : tie.Need-shared-slice-read-other Inv-loop μ-loop
+shared-slice-read-other c = search needs
 
 add-i : tie.Need-add-i Inv-loop μ-loop
 add-i c = search needs
@@ -29,8 +26,8 @@ loop-less c = search needs
 loop-again : tie.Need-loop-again Inv-loop μ-loop
 loop-again c = search needs
 
-returns-2 : tie.Need-returns-2 Inv-loop μ-loop
-returns-2 c = search needs
+returns : tie.Need-returns Inv-loop μ-loop
+returns c = search needs
 
 pub is-filled-spec : {M : Type 1} → statement M
 is-filled-spec =
@@ -39,9 +36,8 @@ is-filled-spec =
     Inv-loop
     μ-loop
     loop-holds
-    shared-slice-read-if1
-    returns
+    shared-slice-read-other
     add-i
     loop-less
     loop-again
-    returns-2)
+    returns)

@@ -11,6 +11,9 @@ Inv-loop s from octet i₀ i = (from ≤ i) × (i ≤ length s)
 abbrev μ-loop : tie.MeasureT-loop
 μ-loop s from octet i₀ i = length s - i
 
+pass-requires : tie.Need-pass-requires Inv-loop μ-loop
+pass-requires c κs = search needs
+
 loop-holds : tie.Need-loop-holds Inv-loop μ-loop
 loop-holds c = search needs
 
@@ -38,6 +41,7 @@ find-spec =
     (tie.spec
     Inv-loop
     μ-loop
+    pass-requires
     loop-holds
     shared-slice-read-if1
     returns

@@ -17,11 +17,11 @@ returns c = search needs
 loop-holds : tie.Need-loop-holds Inv-loop μ-loop
 loop-holds c = search needs
 
-shared-slice-read-digit : tie.Need-shared-slice-read-digit Inv-loop μ-loop
-shared-slice-read-digit c = search needs
+shared-slice-read-decimal-digit : tie.Need-shared-slice-read-decimal-digit Inv-loop μ-loop
+shared-slice-read-decimal-digit c = search needs
 
-digit-requires : tie.Need-digit-requires Inv-loop μ-loop
-digit-requires c κs = search needs
+decimal-digit-requires : tie.Need-decimal-digit-requires Inv-loop μ-loop
+decimal-digit-requires c κs = search needs
 
 to-usize-requires : tie.Need-to-usize-requires Inv-loop μ-loop
 to-usize-requires c κs = search needs
@@ -61,8 +61,8 @@ number-spec =
     μ-loop
     returns
     loop-holds
-    shared-slice-read-digit
-    digit-requires
+    shared-slice-read-decimal-digit
+    decimal-digit-requires
     to-usize-requires
     returns-2
     sub-if3

@@ -1,0 +1,8 @@
+// The console: what every command needs of the command line, of files and of pages.
+pub mod argv;
+pub mod files;
+pub mod help;
+pub mod list;
+pub mod meanings;
+pub mod page;
+pub mod status;

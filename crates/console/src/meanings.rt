@@ -1,0 +1,45 @@
+// What each answered number means: the one place where the words for it stand (document 01, "Numbers that are answered").
+use crate::list;
+use crate::page;
+use crate::status;
+
+// The highest number that a call may answer; a number is the exit status too.
+pub const HIGHEST: u32 = 25;
+
+// Puts the meaning of a number behind the text, or nothing where it has none: a line for each number, from 0 on.
+pub fn line(number: u32, page: &mut [u8], at: usize) -> usize {
+    let all = b"done
+the asking tenant is 0
+the private shelf is not well formed
+the public shelf is not well formed
+neither shelf has the record
+the profile record is not well formed
+a table of the profile is no staircase
+the transport block is not 1 to 2048 octets
+N_L, Q_m or G is not one that can be sent with
+the block takes more than 64 code blocks
+G has fewer symbol places than there are code blocks
+the output is shorter than the result
+a received octet is over 1
+a code block has no room for all its coded bits
+no block is sent as these bits
+a code block has no parity bits with which it checks
+";
+    page::put(list::line(all, number as usize), page, at)
+}
+
+// Puts the meaning of a number that was answered.
+pub fn put(number: u32, page: &mut [u8], at: usize) -> usize {
+    let end = line(number, page, at);
+    if end == at {
+        return page::put(b"no number that is answered", page, at);
+    }
+    end
+}
+
+pub fn exit_status(number: u32) -> i32 {
+    if number > HIGHEST {
+        return status::FAILED;
+    }
+    number as i32
+}

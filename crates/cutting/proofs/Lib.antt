@@ -1,0 +1,6 @@
+pub mod Answers
+pub mod Rounding
+pub mod Plans
+pub mod PlanFields
+pub mod Transported
+pub mod Agreement

@@ -1,0 +1,5 @@
+pub mod Plan
+pub mod Transport
+pub mod Cutting
+pub mod Promises
+pub mod steps

@@ -1,0 +1,70 @@
+// For the layers above, which have judged the profile once: the plan of a block, its transport bits, and a block's own bits and places.
+use crate::Plan;
+use crate::cut;
+use bits::number::BLOCK_LENGTH;
+use bits::number::TOO_MANY_BLOCKS;
+ghost use mathlib.Core.Path.{_≡_};
+ghost use Prim.Native.Nat.{_+_, _*_, _≤_, _<_};
+ghost use lib.ListN.{length, take, drop};
+ghost use lib.Seq.{sets};
+ghost use Rattle.bits.specs.Bits.{AreBits};
+ghost use Rattle.profile.specs.Promises.{judged};
+ghost use Rattle.cutting.specs.Plan.{blockBits, ownBits};
+ghost use Rattle.cutting.specs.Transport.{transport};
+ghost use Rattle.cutting.specs.Promises.{planned};
+ghost use Rattle.cutting.specs.steps.Plans.{checked, Placed};
+
+// A block's own bits.
+pub fn own_bits(bits: usize, blocks: usize, r: usize) -> usize
+    requires { ⌜ (bits ≤ 16408) × (0 < blocks) × (blocks ≤ 64) ⌝ }
+    ensures { λ n. ⌜ n ≡ ownBits bits blocks r ⌝ }
+{
+    let more = cut::ceil(bits, blocks);
+    let less = bits / blocks;
+    if r < bits % blocks {
+        return more;
+    }
+    less
+}
+
+// How a block of so many octets is cut by a profile that was judged already.
+pub fn plan_accepted(profile: &[u8], octets: usize) -> Plan
+    requires { ⌜ judged (now profile) ≡ 0 ⌝ }
+    ensures { λ r. ⌜ r ≡ planned (now (profile .entry)) octets ⌝ }
+{
+    if !bits::inner::is_within(1, 2048, octets) {
+        return cut::refused(BLOCK_LENGTH);
+    }
+    let bits = 8 * octets + 24;
+    let kmax = cut::kmax(profile);
+    let blocks = cut::ceil(bits, kmax);
+    if 64 < blocks {
+        return cut::refused(TOO_MANY_BLOCKS);
+    }
+    cut::cutting(profile, bits, kmax, blocks)
+}
+
+// Lays the transport bits of a block, its bits and their checksum, in front of `bits`.
+pub fn attach(block: &[u8], bits: &mut [u8])
+    requires { ⌜ (length (now block) ≤ 2048) × (blockBits (length (now block)) ≤ length (now bits)) ⌝ }
+    ensures { λ _. ⌜ now (bits .exit) ≡ sets (now (bits .entry)) 0 (transport (now (block .entry))) ⌝ }
+{
+    checksum::inner::attach(block, 24, checksum::GEN24A, bits);
+}
+
+// Whether bits end with the checksum of those before it.
+pub fn is_attached(bits: &[u8]) -> bool
+    requires { ⌜ AreBits (now bits) × (24 ≤ length (now bits)) ⌝ }
+    ensures { λ r. ⌜ r ≡ checked (now (bits .entry)) ⌝ }
+{
+    checksum::inner::is_attached(bits, 24, checksum::GEN24A)
+}
+
+// Lays a block's own bits in front of the word, and filler behind them.
+pub fn lay_block(bits: &[u8], start: usize, own: usize, places: usize, word: &mut [u8])
+    requires { ⌜ (start + own ≤ length (now bits)) × (own ≤ places) × (places ≤ length (now word)) ⌝ }
+    ensures { λ _. ⌜ Placed places (take own (drop start (now (bits .entry)))) (now (word .entry)) (now (word .exit)) ⌝ }
+{
+    bits::inner::lay(bits, start, word, 0, own);
+    bits::inner::mark(word, own, places);
+}

@@ -1,0 +1,13 @@
+-- What `plan` shows of a code block.
+use mathlib.Core.Path.{_≡_}
+use mathlib.Core.List.{List}
+use Prim.Native.Nat.{ℕ}
+use Rattle.cutting.specs.Plan.{blockBits, blocks, ownBits, filler}
+use Rattle.coding.specs.Blocks.{sendable}
+use Rattle.desk.specs.declared.plan.Part.{Part}
+
+-- block r of a transport block of so many octets: its own bits, its filler, and N
+pub record PartOf (R : List ℕ) (octets r : ℕ) (p : Part) : Type 0 where
+  pub own : p .own ≡ ownBits (blockBits octets) (blocks R (blockBits octets)) r
+  pub filler : p .filler ≡ filler R (blockBits octets) r
+  pub sendable : p .sendable ≡ sendable R (blockBits octets) r

@@ -1,0 +1,58 @@
+// The command `numbers`: the table of all numbers that are answered.
+use console::argv::Words;
+use console::files;
+use console::help;
+use console::meanings;
+use console::page;
+use text::octets;
+
+pub fn run(words: Words) -> i32 {
+    if words.none {
+        return write();
+    }
+    help::say(
+        words.help,
+        b"this command takes no words",
+        b"usage: kuambyte numbers
+
+Writes the table of the numbers that are answered, and what each means.
+",
+    )
+}
+
+fn write() -> i32 {
+    let mut page = io::buffer();
+    let a = page::put(b"no.  given when\n", &mut page, 0);
+    let b = rows(&mut page, a);
+    let c = page::put(
+        b"
+1 to 4 belong to the lookup, 5 to 11 and 15 to sending, 5 to 14 to receiving. The first that applies, in the call's own
+order, is answered, and it is the exit status. Other statuses: 64 wrong words, 74 a file that cannot be read or a write
+that failed.
+",
+        &mut page,
+        b,
+    );
+    files::write(octets::first(&page, c))
+}
+
+fn rows(page: &mut [u8], from: usize) -> usize {
+    let mut at = from;
+    let mut number = 0;
+    while number <= meanings::HIGHEST {
+        at = row(number, page, at);
+        number += 1;
+    }
+    at
+}
+
+// A number that no call answers has no row: what was put of it is put over.
+fn row(number: u32, page: &mut [u8], at: usize) -> usize {
+    let a = page::right(number as usize, 3, page, at);
+    let b = page::put(b"  ", page, a);
+    let c = meanings::line(number, page, b);
+    if c == b {
+        return at;
+    }
+    page::put(b"\n", page, c)
+}

@@ -1,0 +1,48 @@
+// The calls of the library that more than one command makes, each in one place.
+use crate::asked::Parameters;
+use crate::asked::eight_times;
+use advice::Least;
+use bits::number::Written;
+
+pub fn send<'a>(
+    private: &'a [u8],
+    public: &'a [u8],
+    asked: Parameters,
+    block: &[u8],
+    bits: &mut [u8],
+) -> Written {
+    shelf::hosted_send(
+        private,
+        public,
+        asked.tenant,
+        asked.profile,
+        block,
+        asked.terms,
+        asked.g,
+        bits,
+    )
+}
+
+pub fn receive<'a>(
+    private: &'a [u8],
+    public: &'a [u8],
+    asked: Parameters,
+    bits: &[u8],
+    block: &mut [u8],
+) -> Written {
+    shelf::hosted_receive(
+        private,
+        public,
+        asked.tenant,
+        asked.profile,
+        eight_times(asked.octets),
+        asked.terms,
+        bits,
+        block,
+    )
+}
+
+// The least G with which every code block has room.
+pub fn least(record: &[u8], asked: Parameters) -> Least {
+    advice::least_bits(record, asked.octets, asked.terms)
+}

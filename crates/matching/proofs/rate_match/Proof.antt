@@ -1,0 +1,36 @@
+-- `matching::rate_match` meets its contract.
+use mathlib.Core.Path.{sym, _∙_}
+use denote.Ref.{now}
+use borrow.Author.Needs.{needs}
+use Rattle.matching.proofs.Answers.{match-passed, match-refused, match-done}
+use Rattle.matching.proofs.rate_match.Statement.{statement}
+use Rattle.matching.proofs.rate_match.Tie as tie
+
+match-number-requires : tie.Need-match-number-requires
+match-number-requires c κs = search needs
+
+returns : tie.Need-returns
+returns c =
+    let u = c .before in
+    let a = u .before .before .before .args in
+    match-refused (now (a .coded)) (a .e .0) (now (a .out)) (u .match-number .result) (u .match-number .ensures) (c .if1 .taken)
+
+fill-requires : tie.Need-fill-requires
+fill-requires c κs =
+    let u = c .before .before in
+    let a = u .before .before .before .args in
+    let ok = match-passed (now (a .coded)) (a .e .0) (now (a .out)) (sym (u .match-number .ensures) ∙ c .before .if1 .left) in
+    (ok .1, ok .0)
+
+same-length : tie.Need-same-length
+same-length c = search needs
+
+returns-2 : tie.Need-returns-2
+returns-2 c =
+    let u = c .before .before .before .before .before in
+    let a = u .before .before .before .args in
+    match-done (now (a .coded)) (a .e .0) (now (a .out)) (u .match-number .result) (u .match-number .ensures) (c .before .before .before .before .if1 .left) (c .before .before .fill .last .1 .1 .0) (c .before .before .fill .ensures)
+
+pub rate-match-spec : {M : Type 1} → statement M
+rate-match-spec =
+    tie.close (tie.spec match-number-requires returns fill-requires same-length returns-2)

@@ -1,0 +1,2 @@
+-- What the contracts of the program's functions cite.
+pub mod Room

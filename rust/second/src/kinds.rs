@@ -1,0 +1,49 @@
+//! The kinds of requests (docs/REQUESTS.md, "Requests"): each is one line in the list and one module.
+
+mod check;
+mod crc;
+mod crcoct;
+mod encode;
+mod hrecv;
+mod hsend;
+mod lookup;
+mod parts;
+mod plan;
+mod profile;
+mod rate;
+mod recv;
+mod send;
+
+use crate::errors::Fault;
+use crate::form::{Form, Given};
+use crate::generate::Makers;
+
+pub const KINDS: &[Kind] = &[
+    crc::KIND,
+    crcoct::KIND,
+    profile::KIND,
+    plan::KIND,
+    encode::KIND,
+    check::KIND,
+    rate::KIND,
+    send::KIND,
+    recv::KIND,
+    lookup::KIND,
+    hsend::KIND,
+    hrecv::KIND,
+];
+
+/// One kind of request.
+pub struct Kind {
+    /// The first word of the line.
+    pub name: &'static str,
+    pub form: Form,
+    /// The answer to what the line gives, without the newline.
+    pub answer: fn(Given) -> Result<String, Fault>,
+    pub makers: Makers,
+}
+
+/// The kind of a name.
+pub fn named(name: &[u8]) -> Option<&'static Kind> {
+    KINDS.iter().find(|kind| kind.name.as_bytes() == name)
+}

@@ -1,0 +1,27 @@
+//! `check RECORD Z BITS`: whether a coded word checks.
+
+use super::Kind;
+use crate::errors::Fault;
+use crate::form::{Form, Given, Word};
+use crate::generate::parity::CHECK;
+use crate::numbers::DONE;
+use crate::parity::check;
+use crate::words::SHELF_ROOM;
+
+pub const KIND: Kind = Kind {
+    name: "check",
+    form: Form {
+        words: &[Word::Hex(SHELF_ROOM), Word::Number, Word::Bits],
+        options: &[],
+    },
+    answer,
+    makers: CHECK,
+};
+
+fn answer(mut given: Given) -> Result<String, Fault> {
+    let (record, z) = (given.octets(), given.number());
+    Ok(match check(&record, z, &given.octets()) {
+        Ok(checks) => format!("{DONE} {}", u8::from(checks)),
+        Err(number) => format!("{number} 0"),
+    })
+}

@@ -1,0 +1,101 @@
+//! Words and answers that several kinds of requests have in common.
+
+use crate::errors::Fault;
+use crate::form::Given;
+use crate::numbers::{Number, DONE};
+use crate::octets::packed;
+use crate::output::lend;
+use crate::shelf;
+use crate::transfer::Asked;
+
+/// PRIVATE PUBLIC TENANT PROFILE.
+pub fn shelves(given: &mut Given) -> shelf::Asked {
+    shelf::Asked {
+        private: given.octets(),
+        public: given.octets(),
+        tenant: given.short(),
+        profile: given.short(),
+    }
+}
+
+/// What is sent, and the length of the output.
+pub struct Sending {
+    pub block: Vec<u8>,
+    pub asked: Asked,
+    pub length: usize,
+}
+
+/// BLOCK NL QM G OUTLEN.
+pub fn sending(given: &mut Given) -> Sending {
+    Sending {
+        block: given.octets(),
+        asked: Asked {
+            layers: given.number(),
+            order: given.number(),
+            g: given.number(),
+        },
+        length: given.length(),
+    }
+}
+
+/// What is received, and the length of the output.
+pub struct Receiving {
+    pub a: u64,
+    pub layers: u64,
+    pub order: u64,
+    pub bits: Vec<u8>,
+    pub length: usize,
+}
+
+/// A NL QM BITS OUTLEN.
+pub fn receiving(given: &mut Given) -> Receiving {
+    Receiving {
+        a: given.number(),
+        layers: given.number(),
+        order: given.number(),
+        bits: given.octets(),
+        length: given.length(),
+    }
+}
+
+/// A checksum's value in hexadecimal.
+pub fn sum(checksum: Result<u32, Number>) -> String {
+    match checksum {
+        Ok(value) => format!("{DONE} {value:x}"),
+        Err(number) => format!("{number} 0"),
+    }
+}
+
+/// The number and the count of a call, and what it wrote, in the form of the request.
+pub fn written(
+    length: usize,
+    form: fn(&[u8]) -> String,
+    call: impl FnOnce(&mut [u8]) -> Result<usize, Number>,
+) -> Result<String, Fault> {
+    Ok(match lend(length, call)? {
+        Ok(octets) => format!("{DONE} {} {}", octets.len(), form(&octets)),
+        Err(number) => format!("{number} 0 -"),
+    })
+}
+
+/// One digit for each place.
+pub fn digits(places: &[u8]) -> String {
+    places.iter().map(u8::to_string).collect()
+}
+
+/// Two digits for each octet, or `-` for none.
+pub fn hex(octets: &[u8]) -> String {
+    if octets.is_empty() {
+        return "-".to_string();
+    }
+    let digit = |value: u8| char::from(b"0123456789abcdef"[usize::from(value)]);
+    octets
+        .iter()
+        .flat_map(|octet| [digit(octet / 16), digit(octet % 16)])
+        .collect()
+}
+
+/// Single bits packed into octets.
+pub fn hex_of_bits(bits: &[u8]) -> String {
+    hex(&packed(bits))
+}

@@ -1,0 +1,340 @@
+use crate::errors::Fault;
+use crate::form::Value;
+use crate::kinds::KINDS;
+use crate::lines::LINE_ROOM;
+use crate::words::{BITS_ROOM, BLOCK_ROOM, SHELF_ROOM};
+
+/// The name of a request and the values of its words.
+type Read = Result<Option<(&'static str, Vec<Value>)>, Fault>;
+
+fn request(line: &[u8]) -> Read {
+    let read = super::request(line)?;
+    Ok(read.map(|(kind, given)| (kind.name, given.values())))
+}
+
+fn read(name: &'static str, values: &[Value]) -> Read {
+    Ok(Some((name, values.to_vec())))
+}
+
+fn number(number: u64) -> Value {
+    Value::Number(number)
+}
+
+fn octets(octets: &[u8]) -> Value {
+    Value::Octets(octets.to_vec())
+}
+
+fn crc(width: u64, bits: &[u8]) -> Read {
+    read("crc", &[number(width), octets(bits)])
+}
+
+fn padded(text: &[u8], length: usize) -> Vec<u8> {
+    let mut line = text.to_vec();
+    line.resize(length, b' ');
+    line
+}
+
+#[test]
+fn a_request_is_read() {
+    assert_eq!(
+        request(b"crc 24 00000001"),
+        crc(24, &[0, 0, 0, 0, 0, 0, 0, 1])
+    );
+    assert_eq!(request(b"crc 8 x:00ff"), crc(8, &[0, 255]));
+    assert_eq!(request(b"crc 16 -"), crc(16, &[]));
+}
+
+#[test]
+fn a_request_of_packed_octets_is_read() {
+    let crcoct = |width, packed: &[u8]| read("crcoct", &[number(width), octets(packed)]);
+    assert_eq!(request(b"crcoct 24 01fE"), crcoct(24, &[0x01, 0xfe]));
+    assert_eq!(request(b"crcoct 7 -"), crcoct(7, &[]));
+    assert_eq!(request(b"crcoct q 0"), Err(Fault::Number));
+    assert_eq!(request(b"crcoct 8 0"), Err(Fault::Hex));
+    assert_eq!(request(b"crcoct 8 x:00"), Err(Fault::Hex));
+}
+
+#[test]
+fn requests_about_a_record_are_read() {
+    let record = || octets(&[0x00, 0xfe]);
+    assert_eq!(request(b"profile 00fe"), read("profile", &[record()]));
+    assert_eq!(
+        request(b"plan 00Fe 18446744073709551615"),
+        read("plan", &[record(), number(u64::MAX)])
+    );
+}
+
+#[test]
+fn requests_about_one_block_are_read() {
+    let places = octets(&[0, 1, 2]);
+    assert_eq!(
+        request(b"encode 01 2 012 140000"),
+        read(
+            "encode",
+            &[octets(&[1]), number(2), places, number(140_000)]
+        )
+    );
+    assert_eq!(
+        request(b"check - 18446744073709551615 x:00ff"),
+        read("check", &[octets(&[]), number(u64::MAX), octets(&[0, 255])])
+    );
+}
+
+#[test]
+fn requests_about_radio_bits_are_read() {
+    assert_eq!(
+        request(b"rate 65537 012 7"),
+        read("rate", &[number(65_537), octets(&[0, 1, 2]), number(7)])
+    );
+    let record = octets(&[0]);
+    let sending = [1, 2, 3, 4].map(number);
+    assert_eq!(
+        request(b"send 00 5a 1 2 3 4"),
+        read(
+            "send",
+            &[&[record.clone(), octets(&[0x5a])], &sending[..]].concat()
+        )
+    );
+    let receiving = [
+        number(8),
+        number(1),
+        number(2),
+        octets(&[0, 1, 9]),
+        number(4),
+    ];
+    assert_eq!(
+        request(b"recv 00 8 1 2 019 4"),
+        read("recv", &[&[record], &receiving[..]].concat())
+    );
+}
+
+#[test]
+fn requests_about_shelves_are_read() {
+    let shelves = [octets(&[1, 2]), octets(&[]), number(65_535), number(0)];
+    assert_eq!(request(b"lookup 0102 - 65535 0"), read("lookup", &shelves));
+    let sending = [octets(&[0x5a]), number(1), number(2), number(3), number(4)];
+    assert_eq!(
+        request(b"hsend 0102 - 65535 0 5a 1 2 3 4"),
+        read("hsend", &[&shelves[..], &sending].concat())
+    );
+    let receiving = [
+        number(8),
+        number(1),
+        number(2),
+        octets(&[0, 1, 9]),
+        number(4),
+    ];
+    assert_eq!(
+        request(b"hrecv 0102 - 65535 0 8 1 2 019 4"),
+        read("hrecv", &[&shelves[..], &receiving].concat())
+    );
+}
+
+#[test]
+fn no_request_has_an_optional_word_yet() {
+    for kind in KINDS {
+        let form = " 0".repeat(kind.form.words.len());
+        for ending in [" rv=0", " =", " by=quick ed=1", " q=", " rv=0 # comment"] {
+            let line = [kind.name, &form, ending].concat();
+            assert_eq!(request(line.as_bytes()), Err(Fault::Words), "{line}");
+        }
+    }
+}
+
+#[test]
+fn the_name_is_no_optional_word() {
+    for line in [
+        &b"rv=0"[..],
+        b"crc=1",
+        b"rv=0 by=quick",
+        b"=",
+        b"q=0 8 1 rv=0",
+    ] {
+        assert_eq!(request(line), Err(Fault::Request));
+    }
+    assert_eq!(request(b"crc rv=0"), Err(Fault::Words));
+}
+
+#[test]
+fn a_tenant_and_a_profile_fit_into_two_octets() {
+    for line in [&b"lookup - - 65536 0"[..], b"lookup - - 1 65536"] {
+        assert_eq!(request(line), Err(Fault::Number));
+    }
+}
+
+#[test]
+fn a_block_has_room_for_4_096_octets() {
+    let asked = |digits: usize| {
+        let block = vec![b'0'; digits];
+        request(&[b"send 00 ", &block[..], b" 1 2 128 128"].concat())
+    };
+    assert!(asked(2 * BLOCK_ROOM).is_ok());
+    assert_eq!(asked(2 * BLOCK_ROOM - 1), Err(Fault::Hex));
+    assert_eq!(asked(2 * BLOCK_ROOM + 1), Err(Fault::Long));
+}
+
+#[test]
+fn a_record_and_packed_octets_have_room_for_70_000() {
+    for name in [&b"profile "[..], b"crcoct 8 "] {
+        let asked = |digits: usize| request(&[name, &vec![b'0'; digits]].concat());
+        assert!(asked(2 * SHELF_ROOM).is_ok());
+        assert_eq!(asked(2 * SHELF_ROOM - 1), Err(Fault::Hex));
+        assert_eq!(asked(2 * SHELF_ROOM + 1), Err(Fault::Long));
+    }
+}
+
+#[test]
+fn every_request_has_its_count_of_words() {
+    for (name, count) in [
+        ("crc", 2),
+        ("crcoct", 2),
+        ("profile", 1),
+        ("plan", 2),
+        ("encode", 4),
+        ("check", 3),
+        ("rate", 3),
+        ("send", 6),
+        ("recv", 6),
+        ("lookup", 4),
+        ("hsend", 9),
+        ("hrecv", 9),
+    ] {
+        for words in (0..12).filter(|&words| words != count) {
+            let line = [name, &" 0".repeat(words)].concat();
+            assert_eq!(request(line.as_bytes()), Err(Fault::Words), "{line}");
+        }
+        let line = [name, &" q".repeat(count)].concat();
+        assert_ne!(request(line.as_bytes()), Err(Fault::Words), "{line}");
+    }
+}
+
+#[test]
+fn blank_lines_and_comments_have_no_answer() {
+    for line in [
+        &b""[..],
+        b" ",
+        b"    ",
+        b"#",
+        b"# crc 8 1",
+        b"#crc",
+        b" #",
+        b"   # crc 8 1",
+    ] {
+        assert_eq!(request(line), Ok(None));
+    }
+}
+
+#[test]
+fn a_comment_ends_a_request() {
+    for line in [
+        &b"crc 8 1 #"[..],
+        b"crc 8 1 # comment",
+        b"crc 8 1    # comment",
+        b"crc 8 1 #comment # again",
+        b"crc 8 1 #\xff",
+    ] {
+        assert_eq!(request(line), crc(8, &[1]));
+    }
+}
+
+#[test]
+fn a_comment_begins_after_a_space() {
+    assert_eq!(request(b"crc 8 1#"), Err(Fault::Bits));
+    assert_eq!(request(b"crc 8# 1"), Err(Fault::Number));
+    assert_eq!(request(b"crc# 8 1"), Err(Fault::Request));
+    assert_eq!(request(b"crc 8 #1"), Err(Fault::Words));
+    assert_eq!(request(b"crc #8 1"), Err(Fault::Words));
+}
+
+#[test]
+fn spaces_at_the_end_are_dropped() {
+    assert_eq!(request(b"crc 8 1 "), crc(8, &[1]));
+    assert_eq!(request(b"crc 8 1     "), crc(8, &[1]));
+    assert_eq!(request(b"crc 8 "), Err(Fault::Words));
+}
+
+#[test]
+fn only_a_space_separates() {
+    assert_eq!(request(b"crc\t8 1"), Err(Fault::Request));
+    assert_eq!(request(b"crc 8\t1"), Err(Fault::Words));
+    assert_eq!(request(b"crc 8 1\t"), Err(Fault::Bits));
+    assert_eq!(request(b"crc 8 1\r"), Err(Fault::Bits));
+    assert_eq!(request(b"\t"), Err(Fault::Request));
+    assert_eq!(request(b"\r"), Err(Fault::Request));
+}
+
+#[test]
+fn the_first_word_names_the_request() {
+    for line in [
+        &b"CRC 8 1"[..],
+        b"cr 8 1",
+        b"crcc 8 1",
+        b"8 1",
+        b"x",
+        b" crc 8 1",
+        b"  crc 8 1",
+        b"\xff",
+        b"crc\0 8 1",
+    ] {
+        assert_eq!(request(line), Err(Fault::Request));
+    }
+}
+
+#[test]
+fn words_are_counted_before_they_are_read() {
+    for line in [
+        &b"crc"[..],
+        b"crc 8",
+        b"crc q",
+        b"crc 8 1 1",
+        b"crc q q q",
+        b"crc  8 1",
+        b"crc 8  1",
+        b"crc  8",
+        b"crc   8",
+    ] {
+        assert_eq!(request(line), Err(Fault::Words));
+    }
+}
+
+#[test]
+fn words_are_looked_at_from_left_to_right() {
+    assert_eq!(request(b"crc q q"), Err(Fault::Number));
+    assert_eq!(request(b"crc 18446744073709551616 q"), Err(Fault::Number));
+    assert_eq!(request(b"crc 18446744073709551615 q"), Err(Fault::Bits));
+    let long = [&b"crc q "[..], &vec![b'1'; BITS_ROOM + 1]].concat();
+    assert_eq!(request(&long), Err(Fault::Number));
+    let long = [&b"crc 7 "[..], &vec![b'1'; BITS_ROOM + 1]].concat();
+    assert_eq!(request(&long), Err(Fault::Long));
+}
+
+#[test]
+fn words_of_every_kind_are_looked_at_from_left_to_right() {
+    let words = ["q", "q", "q", "140001"];
+    let good = ["00", "0", "0", "0"];
+    let errors = [Fault::Hex, Fault::Number, Fault::Bits, Fault::Long];
+    for (place, &error) in errors.iter().enumerate() {
+        let line = [&["encode"], &good[..place], &words[place..]].concat();
+        assert_eq!(request(line.join(" ").as_bytes()), Err(error));
+    }
+}
+
+#[test]
+fn a_line_has_room_for_its_octets() {
+    assert_eq!(request(&padded(b"crc 8 1", LINE_ROOM)), crc(8, &[1]));
+    assert_eq!(request(&padded(b"crc 8 1 #", LINE_ROOM)), crc(8, &[1]));
+    assert_eq!(request(&padded(b"", LINE_ROOM)), Ok(None));
+    assert_eq!(request(&padded(b"# comment", LINE_ROOM)), Ok(None));
+}
+
+#[test]
+fn the_length_of_a_line_goes_before_what_stands_in_it() {
+    for text in [&b"crc 8 1"[..], b"crc 8 1 # comment", b"q", b"", b" #"] {
+        assert_eq!(request(&padded(text, LINE_ROOM + 1)), Err(Fault::Long));
+    }
+}
+
+#[test]
+fn a_comment_may_have_any_length() {
+    assert_eq!(request(&padded(b"# comment", LINE_ROOM + 1)), Ok(None));
+}
