@@ -1,0 +1,85 @@
+//! Coding and checking with a group of up to 81 bits in the highest places of one u128.
+
+use super::bits::{bits_at, pack, put, top};
+use crate::plain::judge::judge;
+use crate::plain::parity::{block_accepted, word_accepted, Matrix};
+use crate::record::Profile;
+
+type Groups = [u128; 12];
+
+impl Matrix<'_> {
+    fn add(&self, j: usize, group: u128, sums: &mut [u128]) {
+        for (sum, row) in sums.iter_mut().zip(self.table.chunks_exact(self.kb + self.m)) {
+            let shift = row[j] as usize;
+            if shift != 255 {
+                *sum ^= (group << shift) | (group >> (self.z - shift));
+            }
+        }
+    }
+
+    /// The parity groups of the systematic groups that `group` gives.
+    pub fn parity(&self, group: impl Fn(usize) -> u128) -> Groups {
+        let mut room = Groups::default();
+        let sums = &mut room[..self.m];
+        for j in 0..self.kb {
+            self.add(j, group(j), sums);
+        }
+        let first = sums.iter().fold(0, |all, &sum| all ^ sum) & top(self.z);
+        self.add(self.kb, first, sums);
+        let mut parity = Groups::default();
+        parity[0] = first;
+        let mut stair = 0;
+        for k in 0..self.m - 1 {
+            stair ^= sums[k];
+            parity[k + 1] = stair & top(self.z);
+        }
+        parity
+    }
+
+    /// Whether a word of the groups that `group` gives checks.
+    pub fn all_even(&self, group: impl Fn(usize) -> u128) -> bool {
+        let mut room = Groups::default();
+        let sums = &mut room[..self.m];
+        for j in 0..self.kb + self.m {
+            self.add(j, group(j), sums);
+        }
+        sums.iter().fold(0, |any, &sum| any | sum) & top(self.z) == 0
+    }
+}
+
+pub fn code(record: &[u8], z: usize, places: &[u8], out: &mut [u8]) -> Result<(), u32> {
+    judge(record)?;
+    let profile = Profile::of(record);
+    let matrix = Matrix::of(&profile, profile.index_of(z)?, z);
+    block_accepted(&profile, z, places, out.len())?;
+    let mut packed = [0; 203 + 16];
+    pack_places(places, &mut packed);
+    let parity = matrix.parity(|j| bits_at(&packed, j * z, z));
+    let (systematic, rest) = out[..profile.coded(z)].split_at_mut(places.len());
+    systematic.copy_from_slice(places);
+    let mut tail = [0; 12 * 81 + 8];
+    for (i, &group) in parity[..profile.m].iter().enumerate() {
+        put(&mut tail[i * z..], group, z);
+    }
+    rest.copy_from_slice(&tail[..rest.len()]);
+    Ok(())
+}
+
+/// A filler place counts as 0.
+fn pack_places(places: &[u8], packed: &mut [u8]) {
+    let mut bits = [0; 20 * 81];
+    for (bit, &place) in bits.iter_mut().zip(places) {
+        *bit = place & 1;
+    }
+    pack(&bits[..places.len()], packed);
+}
+
+pub fn check(record: &[u8], z: usize, word: &[u8]) -> Result<bool, u32> {
+    judge(record)?;
+    let profile = Profile::of(record);
+    let matrix = Matrix::of(&profile, profile.index_of(z)?, z);
+    word_accepted(&profile, z, word)?;
+    let mut packed = [0; 324 + 16];
+    pack(word, &mut packed);
+    Ok(matrix.all_even(|j| bits_at(&packed, j * z, z)))
+}

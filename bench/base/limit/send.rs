@@ -1,0 +1,53 @@
+//! Sending from packed octets: a block's bits are spread once, its parity is put behind them, and runs are copied.
+
+use super::bits::{own_group, put, spread_octet};
+use super::checksum::by_eight_octets;
+use crate::plain::parity::{Matrix, WORD};
+use crate::plain::send::planned;
+use crate::record::Terms;
+
+pub fn send(record: &[u8], block: &[u8], terms: Terms, out: &mut [u8]) -> Result<(), u32> {
+    let (profile, plan) = planned(record, block, terms, out.len())?;
+    let mut carried = [0; 2051 + 32];
+    carry(block, &mut carried);
+    let matrix = Matrix::of(&profile, plan.index, plan.z);
+    let share = plan.share(terms);
+    let mut sent = [0; WORD + 16];
+    let mut start = 0;
+    for (r, out) in out.chunks_exact_mut(share).take(plan.blocks).enumerate() {
+        let own = plan.own(r);
+        lay(matrix, &carried, start, own, &mut sent);
+        for run in out.chunks_mut(own + matrix.m * matrix.z) {
+            run.copy_from_slice(&sent[..run.len()]);
+        }
+        start += own;
+    }
+    out[share * plan.blocks..terms.g].fill(0);
+    Ok(())
+}
+
+/// The octets of the block and of its checksum, with room behind them to read words from.
+fn carry(block: &[u8], octets: &mut [u8]) {
+    let (body, rest) = octets.split_at_mut(block.len());
+    body.copy_from_slice(block);
+    rest[..3].copy_from_slice(&by_eight_octets(24, block).to_be_bytes()[1..]);
+}
+
+/// The unmarked places of one coded block.
+fn lay(matrix: Matrix, carried: &[u8], start: usize, own: usize, sent: &mut [u8]) {
+    let z = matrix.z;
+    let parity = matrix.parity(|j| own_group(carried, start, own, j * z, z));
+    spread_from(carried, start, &mut sent[..own.next_multiple_of(8)]);
+    for (i, &group) in parity[..matrix.m].iter().enumerate() {
+        put(&mut sent[own + i * z..], group, z);
+    }
+}
+
+/// The bits from bit `start` on, an octet each.
+fn spread_from(octets: &[u8], start: usize, out: &mut [u8]) {
+    let shift = start % 8;
+    for (eight, pair) in out.chunks_exact_mut(8).zip(octets[start / 8..].windows(2)) {
+        let octet = (u16::from_be_bytes([pair[0], pair[1]]) >> (8 - shift)) as u8;
+        eight.copy_from_slice(&spread_octet(octet));
+    }
+}

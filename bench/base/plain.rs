@@ -1,0 +1,10 @@
+//! Fast plain Rust on the product's layout: an octet for a bit, slices and iterators, and every refusal of the product.
+
+pub mod checksum;
+pub mod judge;
+pub mod matching;
+pub mod octets;
+pub mod parity;
+pub mod receive;
+pub mod send;
+pub mod shelf;

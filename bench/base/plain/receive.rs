@@ -1,0 +1,92 @@
+//! Receiving: every repetition, every parity bit, every place left over and the checksum are tested.
+
+use super::checksum::by_octets;
+use super::judge::judge;
+use super::octets::{all_zero, pack, some_over};
+use super::parity::{Matrix, WORD};
+use crate::record::{accepted, Plan, Profile, Terms};
+
+const BITS: usize = 8 * 2048 + 24;
+
+pub fn receive(record: &[u8], a: usize, terms: Terms, bits: &[u8], out: &mut [u8]) -> Result<(), u32> {
+    let (profile, plan, octets) = planned(record, a, terms, bits, out.len())?;
+    let share = plan.share(terms);
+    let mut room = [0; BITS];
+    let own = &mut room[..plan.bits];
+    take_all(&profile, &plan, share, bits, own)?;
+    if !all_zero(&bits[share * plan.blocks..]) {
+        return Err(14);
+    }
+    let mut block = [0; 2048 + 3];
+    pack(own, &mut block[..octets + 3]);
+    attached(&block[..octets + 3], out)
+}
+
+/// The plan and the octets, or the first of 5 to 13.
+#[inline(always)]
+pub fn planned<'a>(
+    record: &'a [u8],
+    a: usize,
+    terms: Terms,
+    bits: &[u8],
+    room: usize,
+) -> Result<(Profile<'a>, Plan, usize), u32> {
+    judge(record)?;
+    let profile = Profile::of(record);
+    let octets = if a % 8 == 0 { a / 8 } else { 0 };
+    let plan = accepted(&profile, octets, terms)?;
+    if room < octets {
+        return Err(11);
+    }
+    if some_over(1, bits) {
+        return Err(12);
+    }
+    // The first block carries as many bits as any.
+    if plan.share(terms) < plan.own(0) + profile.m * plan.z {
+        return Err(13);
+    }
+    Ok((profile, plan, octets))
+}
+
+/// The own bits of all blocks, or 14.
+fn take_all(profile: &Profile, plan: &Plan, share: usize, bits: &[u8], own: &mut [u8]) -> Result<(), u32> {
+    let matrix = Matrix::of(profile, plan.index, plan.z);
+    let mut room = [0; WORD];
+    let word = &mut room[..profile.coded(plan.z)];
+    let mut start = 0;
+    for (r, sent) in bits.chunks_exact(share).take(plan.blocks).enumerate() {
+        let count = plan.own(r);
+        if !repeats(sent, count + word.len() - plan.places) {
+            return Err(14);
+        }
+        lay(sent, count, plan.places, word);
+        if !matrix.checks(word) {
+            return Err(14);
+        }
+        own[start..start + count].copy_from_slice(&sent[..count]);
+        start += count;
+    }
+    Ok(())
+}
+
+fn repeats(sent: &[u8], period: usize) -> bool {
+    sent[period..] == sent[..sent.len() - period]
+}
+
+/// The word that was sent, with its filler again.
+fn lay(sent: &[u8], own: usize, places: usize, word: &mut [u8]) {
+    let parity = word.len() - places;
+    word[..own].copy_from_slice(&sent[..own]);
+    word[own..places].fill(2);
+    word[places..].copy_from_slice(&sent[own..own + parity]);
+}
+
+/// Writes the block where its checksum is the attached one.
+pub fn attached(block: &[u8], out: &mut [u8]) -> Result<(), u32> {
+    let (body, sum) = block.split_at(block.len() - 3);
+    if by_octets(24, body).to_be_bytes()[1..] != *sum {
+        return Err(14);
+    }
+    out[..body.len()].copy_from_slice(body);
+    Ok(())
+}

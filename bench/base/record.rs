@@ -1,0 +1,123 @@
+//! What both baselines share: the numbers of a judged record, how a block is cut, and the refusals 7 to 10.
+
+/// Two octets, the high one first.
+pub fn number(octets: &[u8], at: usize) -> usize {
+    u16::from_be_bytes([octets[at], octets[at + 1]]) as usize
+}
+
+/// A record that was judged.
+pub struct Profile<'a> {
+    pub kb: usize,
+    pub m: usize,
+    sizes: usize,
+    octets: &'a [u8],
+}
+
+impl<'a> Profile<'a> {
+    pub fn of(octets: &'a [u8]) -> Self {
+        Profile { kb: number(octets, 0), m: number(octets, 2), sizes: number(octets, 4), octets }
+    }
+
+    fn z(&self, index: usize) -> usize {
+        number(self.octets, 6 + 4 * index)
+    }
+
+    pub fn table(&self, index: usize) -> &'a [u8] {
+        let length = self.m * (self.kb + self.m);
+        let start = 6 + 4 * self.sizes + index * length;
+        &self.octets[start..start + length]
+    }
+
+    /// The index of a size, or 8.
+    pub fn index_of(&self, z: usize) -> Result<usize, u32> {
+        (0..self.sizes).find(|&index| self.z(index) == z).ok_or(8)
+    }
+
+    /// The coded places of a block of this size.
+    pub fn coded(&self, z: usize) -> usize {
+        (self.kb + self.m) * z
+    }
+}
+
+/// N_L, Q_m and G.
+#[derive(Clone, Copy)]
+pub struct Terms {
+    pub nl: usize,
+    pub qm: usize,
+    pub g: usize,
+}
+
+impl Terms {
+    fn refused(self) -> bool {
+        !(1..=4).contains(&self.nl)
+            || !matches!(self.qm, 2 | 4 | 6)
+            || self.g > 65536
+            || self.g % (self.nl * self.qm) != 0
+    }
+
+    fn symbols(self) -> usize {
+        self.g / (self.nl * self.qm)
+    }
+}
+
+/// How a transport block is cut into code blocks.
+pub struct Plan {
+    pub bits: usize,
+    pub blocks: usize,
+    pub places: usize,
+    pub z: usize,
+    pub index: usize,
+}
+
+impl Plan {
+    /// The bits that block r carries.
+    pub fn own(&self, r: usize) -> usize {
+        self.bits / self.blocks + (r < self.bits % self.blocks) as usize
+    }
+
+    /// The radio bits of each block.
+    pub fn share(&self, terms: Terms) -> usize {
+        terms.symbols() / self.blocks * (terms.nl * terms.qm)
+    }
+}
+
+/// The plan of a block of so many octets, or 9.
+fn cut(profile: &Profile, octets: usize) -> Result<Plan, u32> {
+    let bits = 8 * octets + 24;
+    let blocks = bits.div_ceil(profile.kb * profile.z(profile.sizes - 1));
+    if blocks > 64 {
+        return Err(9);
+    }
+    let most = bits.div_ceil(blocks);
+    let fits = |&index: &usize| most <= profile.kb * profile.z(index);
+    let index = (0..profile.sizes).find(fits).unwrap_or(profile.sizes - 1);
+    let z = profile.z(index);
+    Ok(Plan { bits, blocks, places: profile.kb * z, z, index })
+}
+
+fn length_accepted(octets: usize) -> Result<(), u32> {
+    if (1..=2048).contains(&octets) {
+        Ok(())
+    } else {
+        Err(7)
+    }
+}
+
+/// The plan of a block alone, or 7 or 9.
+pub fn planned(profile: &Profile, octets: usize) -> Result<Plan, u32> {
+    length_accepted(octets)?;
+    cut(profile, octets)
+}
+
+/// The plan of a transfer, or the first of 7 to 10.
+pub fn accepted(profile: &Profile, octets: usize, terms: Terms) -> Result<Plan, u32> {
+    length_accepted(octets)?;
+    if terms.refused() {
+        return Err(8);
+    }
+    let plan = cut(profile, octets)?;
+    if terms.symbols() < plan.blocks {
+        return Err(10);
+    }
+    Ok(plan)
+}

@@ -1,0 +1,84 @@
+/* Calls a side for a job. */
+#include "calls.h"
+#include <string.h>
+
+#define CALLS(P)                                                                                                       \
+    crc_call P##_crc, P##_crc_of_bits;                                                                                 \
+    judge_call P##_judge;                                                                                              \
+    plan_call P##_plan;                                                                                                \
+    match_call P##_match;                                                                                              \
+    code_call P##_code;                                                                                                \
+    check_call P##_check;                                                                                              \
+    send_call P##_send;                                                                                                \
+    receive_call P##_receive;                                                                                          \
+    lookup_call P##_lookup;                                                                                            \
+    hosted_send_call P##_hosted_send;                                                                                  \
+    hosted_receive_call P##_hosted_receive;
+#define SIDE(NAME, P)                                                                                                  \
+    { NAME,      P##_crc,   P##_crc_of_bits, P##_judge,  P##_plan,        P##_match,                                   \
+      P##_code,  P##_check, P##_send,        P##_receive, P##_lookup,     P##_hosted_send,                             \
+      P##_hosted_receive }
+
+CALLS(product)
+CALLS(plain)
+CALLS(limit)
+crc_call plain_crc_bitwise;
+send_call plain_send_once;
+
+const struct side sides[SIDES] = {
+    SIDE("product", product),
+    SIDE("plain", plain),
+    { .name = "plain*", .crc = plain_crc_bitwise, .send = plain_send_once },
+    SIDE("limit", limit),
+};
+
+u8 output[OUTPUT];
+
+/* The baselines never unwind, and their room for it is not linked. */
+void rust_eh_personality(void) {}
+
+uint64_t drawn(void) {
+    static uint64_t state = 88172645463325252u;
+    state ^= state << 13;
+    state ^= state >> 7;
+    state ^= state << 17;
+    return state;
+}
+
+int is_asked(const struct job *job, const char *only) { return !only || strstr(job->name, only); }
+
+int has(const struct side *side, const struct job *job) {
+    switch (job->kind) {
+    case CRC: return side->crc != 0;
+    case SEND: return side->send != 0;
+    /* A side that leaves any other call out leaves them all out. */
+    default: return side->judge != 0;
+    }
+}
+
+static uint64_t run_hosted(const struct side *s, const struct job *j) {
+    if (j->kind == LOOKUP)
+        return s->lookup(j->private, j->private_length, j->public, j->public_length, j->tenant, j->profile);
+    if (j->kind == HOSTED_SEND)
+        return s->hosted_send(j->private, j->private_length, j->public, j->public_length, j->tenant, j->profile, j->input,
+                              j->input_length, j->nl, j->qm, j->g, output, j->room);
+    return s->hosted_receive(j->private, j->private_length, j->public, j->public_length, j->tenant, j->profile, j->a, j->nl,
+                             j->qm, j->input, j->input_length, output, j->room);
+}
+
+uint64_t run(const struct side *s, const struct job *j) {
+    switch (j->kind) {
+    case CRC: return s->crc(j->z, j->input, j->input_length);
+    case CRC_OF_BITS: return s->crc_of_bits(j->z, j->input, j->input_length);
+    case PLAN: return s->plan(j->record, j->record_length, j->z);
+    case MATCH: return s->match(j->input, j->input_length, j->g, output, j->room);
+    case JUDGE: return s->judge(j->record, j->record_length);
+    case CODE: return s->code(j->record, j->record_length, j->z, j->input, j->input_length, output, j->room);
+    case CHECK: return s->check(j->record, j->record_length, j->z, j->input, j->input_length);
+    case SEND:
+        return s->send(j->record, j->record_length, j->input, j->input_length, j->nl, j->qm, j->g, output, j->room);
+    case RECEIVE:
+        return s->receive(j->record, j->record_length, j->a, j->nl, j->qm, j->input, j->input_length, output, j->room);
+    default: return run_hosted(s, j);
+    }
+}

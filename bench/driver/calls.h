@@ -1,0 +1,90 @@
+/* What is measured: the calls of each side, and jobs, each of which is one call with all that it takes. */
+#ifndef CALLS_H
+#define CALLS_H
+#include <stddef.h>
+#include <stdint.h>
+
+typedef uint8_t u8;
+typedef const uint8_t *in;
+
+/* A slice is its start and its length. */
+typedef uint32_t crc_call(size_t width, in octets, size_t count);
+typedef uint32_t judge_call(in record, size_t length);
+typedef size_t plan_call(in record, size_t length, size_t octets);
+typedef uint32_t match_call(in coded, size_t count, size_t e, u8 *out, size_t room);
+typedef uint32_t code_call(in record, size_t length, size_t z, in places, size_t count, u8 *out, size_t room);
+typedef uint32_t check_call(in record, size_t length, size_t z, in word, size_t count);
+typedef uint32_t send_call(in record, size_t length, in block, size_t octets, size_t nl, size_t qm, size_t g, u8 *out, size_t room);
+typedef uint32_t receive_call(in record, size_t length, size_t a, size_t nl, size_t qm, in bits, size_t g, u8 *out, size_t room);
+typedef size_t lookup_call(in private, size_t own, in public, size_t others, uint16_t tenant, uint16_t profile);
+typedef uint32_t hosted_send_call(in private, size_t own, in public, size_t others, uint16_t tenant, uint16_t profile,
+                                  in block, size_t octets, size_t nl, size_t qm, size_t g, u8 *out, size_t room);
+typedef uint32_t hosted_receive_call(in private, size_t own, in public, size_t others, uint16_t tenant, uint16_t profile,
+                                     size_t a, size_t nl, size_t qm, in bits, size_t g, u8 *out, size_t room);
+
+/* The product or a baseline. A call that it has no shape of its own for is null. */
+struct side {
+    const char *name;
+    crc_call *crc, *crc_of_bits;
+    judge_call *judge;
+    plan_call *plan;
+    match_call *match;
+    code_call *code;
+    check_call *check;
+    send_call *send;
+    receive_call *receive;
+    lookup_call *lookup;
+    hosted_send_call *hosted_send;
+    hosted_receive_call *hosted_receive;
+};
+
+/* In the order of the table's columns. */
+enum { PRODUCT, PLAIN, PLAIN_STAR, LIMIT, SIDES };
+extern const struct side sides[SIDES];
+
+enum kind { CRC, CRC_OF_BITS, JUDGE, PLAN, MATCH, CODE, CHECK, SEND, RECEIVE, LOOKUP, HOSTED_SEND, HOSTED_RECEIVE };
+
+/* Inputs of a job that take turns where it is timed: a branch predictor learns one block by heart, and no user sends one block only. */
+enum { VARIANTS = 8 };
+
+struct job {
+    char name[48];
+    enum kind kind;
+    in record;
+    size_t record_length;
+    in private, public;
+    size_t private_length, public_length;
+    uint16_t tenant, profile;
+    size_t z; /* of a checksum: its width; of a plan: the octets */
+    size_t nl, qm, g, a;
+    u8 *input; /* the first of the inputs */
+    u8 *inputs[VARIANTS];
+    size_t input_length;
+    size_t room;
+};
+
+enum { MOST_JOBS = 128, OUTPUT = 70000 };
+extern struct job jobs[MOST_JOBS];
+extern int job_count;
+extern u8 output[OUTPUT];
+
+/* Whether the side has a shape for the job, and what it answers: a number, a checksum or a length. */
+int has(const struct side *side, const struct job *job);
+uint64_t run(const struct side *side, const struct job *job);
+
+/* The next of a fixed row of random numbers. */
+uint64_t drawn(void);
+
+/* Makes all jobs, with the records of a public shelf. */
+void make_jobs(const char *shelf);
+
+/* Whether a job is asked for: each is where `only` is null. */
+int is_asked(const struct job *job, const char *only);
+
+int same(const struct job *job);
+void compare_broken(long count);
+void print_times(int rounds, const char *only);
+void mark_counts(const char *only);
+void mark_places(const char *name);
+void print_depths(const char *only);
+#endif

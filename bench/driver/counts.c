@@ -1,0 +1,44 @@
+/* Marks the calls whose instructions are to be counted: an emulator with bench/marks.c counts between the marks. */
+#include "calls.h"
+#include <stdio.h>
+#include <string.h>
+#include <sys/syscall.h>
+#include <unistd.h>
+
+/* A mark is the closing of a file that is not open. */
+enum { MARK = 0x7ead0000, BEGIN = 1, PLACES = 2, FIRST = 10 };
+static volatile uint64_t sink;
+
+static void mark(int id) { syscall(SYS_close, MARK + id); }
+
+static void marked(const struct side *side, const struct job *job, int calls, int id) {
+    mark(BEGIN);
+    for (int k = 0; k < calls; k++)
+        sink += run(side, job);
+    mark(id);
+}
+
+/* Four calls and eight: the difference is four, without what surrounds them. */
+void mark_counts(const char *only) {
+    int id = FIRST;
+    for (int k = 0; k < job_count; k++)
+        for (int i = 0; i < SIDES; i++) {
+            if (!is_asked(&jobs[k], only) || !has(&sides[i], &jobs[k]))
+                continue;
+            sink += run(&sides[i], &jobs[k]);
+            printf("job %d %s|%s\n", id, jobs[k].name, sides[i].name);
+            fflush(stdout);
+            marked(&sides[i], &jobs[k], 4, id);
+            marked(&sides[i], &jobs[k], 8, id + 1);
+            id += 2;
+        }
+}
+
+/* One call of the product, with the count of every place. */
+void mark_places(const char *name) {
+    for (int k = 0; k < job_count; k++)
+        if (!strcmp(jobs[k].name, name)) {
+            sink += run(&sides[PRODUCT], &jobs[k]);
+            marked(&sides[PRODUCT], &jobs[k], 1, PLACES);
+        }
+}

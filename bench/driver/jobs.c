@@ -1,0 +1,200 @@
+/* Makes the jobs: every public call that is measured, small, large, and growing. */
+#include "records.h"
+#include <stdio.h>
+#include <stdlib.h>
+#include <string.h>
+
+struct job jobs[MOST_JOBS];
+int job_count;
+
+static struct job *add(enum kind kind, const char *name) {
+    if (job_count == MOST_JOBS)
+        exit(3);
+    struct job *job = &jobs[job_count++];
+    snprintf(job->name, sizeof job->name, "%s", name);
+    job->kind = kind;
+    job->nl = 1;
+    job->qm = 2;
+    job->room = 66000;
+    return job;
+}
+
+static const char *named(const char *what, size_t number) {
+    static char name[48];
+    snprintf(name, sizeof name, "%s %zu", what, number);
+    return name;
+}
+
+static struct job *add_with_record(enum kind kind, const char *name, struct record record) {
+    struct job *job = add(kind, name);
+    job->record = record.octets;
+    job->record_length = record.length;
+    return job;
+}
+
+static void give_input(struct job *job, size_t length, u8 highest) {
+    job->input_length = length;
+    for (int v = 0; v < VARIANTS; v++) {
+        job->inputs[v] = malloc(length + 1);
+        for (size_t i = 0; i < length; i++)
+            job->inputs[v][i] = drawn() & highest;
+    }
+    job->input = job->inputs[0];
+}
+
+static void run_done(const struct job *job) {
+    if (run(&sides[PRODUCT], job)) {
+        fprintf(stderr, "bench: %s is refused\n", job->name);
+        exit(3);
+    }
+}
+
+/* What the job before it writes for each of its inputs. */
+static void give_output_of(struct job *job, struct job before, size_t length) {
+    job->input_length = length;
+    for (int v = 0; v < VARIANTS; v++) {
+        before.input = before.inputs[v];
+        run_done(&before);
+        job->inputs[v] = malloc(length);
+        memcpy(job->inputs[v], output, length);
+    }
+    job->input = job->inputs[0];
+}
+
+static void add_checksum(size_t width, size_t octets) {
+    char name[48];
+    snprintf(name, sizeof name, "crc%zu %zu octets", width, octets);
+    struct job *job = add(CRC, name);
+    job->z = width;
+    give_input(job, octets, 255);
+}
+
+static void add_checksum_of_bits(size_t width, size_t bits) {
+    char name[48];
+    snprintf(name, sizeof name, "crc%zu %zu bits", width, bits);
+    struct job *job = add(CRC_OF_BITS, name);
+    job->z = width;
+    give_input(job, bits, 1);
+}
+
+/* Matching a coded block of 1,944 places, of which 120 in a row are marked. */
+static void add_matching(size_t e) {
+    struct job *job = add(MATCH, named("match 1944", e));
+    job->g = e;
+    give_input(job, 1944, 1);
+    for (int v = 0; v < VARIANTS; v++)
+        memset(job->inputs[v] + 1500, 2, 120);
+}
+
+/* Coding a block, and checking what was coded. */
+static void add_coding(const char *coding, const char *checking, struct record record, size_t z) {
+    size_t kb = number_at(record.octets, 0), m = number_at(record.octets, 2);
+    struct job *code = add_with_record(CODE, coding, record);
+    code->z = z;
+    give_input(code, kb * z, 1);
+    struct job *check = add_with_record(CHECK, checking, record);
+    check->z = z;
+    give_output_of(check, *code, (kb + m) * z);
+}
+
+static void add_record(size_t number) {
+    struct record record = record_of(number);
+    char coding[48], checking[48];
+    add_with_record(JUDGE, named("judge", number), record);
+    add_with_record(PLAN, named("plan", number), record)->z = 2048;
+    for (size_t z = 27; z <= 81; z += 27) {
+        snprintf(coding, sizeof coding, "code %zu z%zu", number, z);
+        snprintf(checking, sizeof checking, "check %zu z%zu", number, z);
+        add_coding(coding, checking, record, z);
+    }
+}
+
+/* Sending a block, and receiving what was sent. */
+static void add_transfer(const char *what, struct record record, size_t octets, size_t g) {
+    char name[48];
+    snprintf(name, sizeof name, "send %s", what);
+    struct job *send = add_with_record(SEND, name, record);
+    send->g = g;
+    give_input(send, octets, 255);
+    snprintf(name, sizeof name, "receive %s", what);
+    struct job *receive = add_with_record(RECEIVE, name, record);
+    receive->a = 8 * octets;
+    give_output_of(receive, *send, g);
+}
+
+/* Into just the room that it needs, three times that, and the most there is. */
+static void add_transfers(size_t number, size_t octets) {
+    struct record record = record_of(number);
+    size_t least = least_g(record, octets);
+    char what[48];
+    snprintf(what, sizeof what, "%zu %zu exact", number, octets);
+    add_transfer(what, record, octets, least);
+    snprintf(what, sizeof what, "%zu %zu three", number, octets);
+    if (3 * least <= 65536)
+        add_transfer(what, record, octets, 3 * least);
+    snprintf(what, sizeof what, "%zu %zu 65536", number, octets);
+    add_transfer(what, record, octets, 65536);
+}
+
+static void add_widest(void) {
+    struct record record = widest();
+    add_with_record(JUDGE, "judge wide", record);
+    add_coding("code wide z81", "check wide z81", record, 81);
+    add_transfer("wide 2048 exact", record, 2048, least_g(record, 2048));
+}
+
+static struct job *add_hosted(enum kind kind, const char *name, size_t entries, uint16_t tenant, uint16_t profile) {
+    struct job *job = add(kind, name);
+    job->private = filled(1, entries, record_of(34), &job->private_length);
+    job->public = filled(0, entries, record_of(34), &job->public_length);
+    job->tenant = tenant;
+    job->profile = profile;
+    return job;
+}
+
+/* A hosted transfer with the last record of a full public shelf. */
+static void add_hosted_transfer(size_t octets) {
+    char name[48];
+    snprintf(name, sizeof name, "hosted send 34 %zu exact", octets);
+    struct job *send = add_hosted(HOSTED_SEND, name, 64, 9, 64);
+    send->g = least_g(record_of(34), octets);
+    give_input(send, octets, 255);
+    snprintf(name, sizeof name, "hosted receive 34 %zu exact", octets);
+    struct job *receive = add_hosted(HOSTED_RECEIVE, name, 64, 9, 64);
+    receive->a = 8 * octets;
+    give_output_of(receive, *send, send->g);
+}
+
+/* How the cost grows with the octets, with G and with the entries. */
+static void add_growing(void) {
+    struct record record = record_of(56);
+    for (size_t octets = 128; octets <= 2048; octets *= 2)
+        add_transfer(named("grow octets", octets), record, octets, least_g(record, octets));
+    for (size_t g = 4096; g <= 65536; g *= 2)
+        add_transfer(named("grow G", g), record, 56, g);
+    for (size_t entries = 4; entries <= 64; entries *= 2)
+        add_hosted(LOOKUP, named("lookup grow entries", entries), entries, 9, entries);
+}
+
+void make_jobs(const char *shelf) {
+    read_shelf(shelf);
+    add_checksum(24, 2048);
+    add_checksum(16, 2048);
+    add_checksum(24, 56);
+    add_checksum_of_bits(24, 16384);
+    add_matching(1824);
+    add_matching(65536);
+    add_record(56);
+    add_record(34);
+    add_transfers(56, 2048);
+    add_transfers(34, 2048);
+    add_transfers(56, 56);
+    /* As many code blocks as may be, of two bits each; then blocks as wide as may be. */
+    add_transfer("toy 13 exact", toy(), 13, least_g(toy(), 13));
+    add_widest();
+    add_hosted(LOOKUP, "lookup 64+64 last public", 64, 9, 64);
+    add_hosted(LOOKUP, "lookup 64+64 last private", 64, 64, 7);
+    add_hosted_transfer(56);
+    add_hosted_transfer(2048);
+    add_growing();
+}

@@ -1,0 +1,28 @@
+/* Puts the same calls to the product and to the baselines: driver SHELF same COUNT | time ROUNDS [JOB] | count [JOB] | where JOB | stack [JOB] */
+#include "calls.h"
+#include <stdio.h>
+#include <stdlib.h>
+#include <string.h>
+
+int main(int count, char **words) {
+    if (count < 3)
+        return 2;
+    const char *command = words[2], *first = count > 3 ? words[3] : 0, *second = count > 4 ? words[4] : 0;
+    make_jobs(words[1]);
+    for (int k = 0; k < job_count; k++)
+        if (!same(&jobs[k]))
+            return 1;
+    if (!strcmp(command, "same") && first)
+        compare_broken(atol(first));
+    else if (!strcmp(command, "time") && first)
+        print_times(atoi(first), second);
+    else if (!strcmp(command, "count"))
+        mark_counts(first);
+    else if (!strcmp(command, "where") && first)
+        mark_places(first);
+    else if (!strcmp(command, "stack"))
+        print_depths(first);
+    else
+        return 2;
+    return 0;
+}

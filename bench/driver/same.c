@@ -1,0 +1,129 @@
+/* Asserts that all sides answer and write the same, on the jobs and on broken copies of them. */
+#include "calls.h"
+#include <stdio.h>
+#include <stdlib.h>
+#include <string.h>
+
+static u8 expected[OUTPUT];
+
+static void say(const struct job *job, const struct side *side, uint64_t answer, uint64_t due) {
+    static int said;
+    if (said++ < 10)
+        printf("DIFFERENT %s, %s: %llu for %llu, or other octets\n", job->name, side->name, (unsigned long long)answer,
+               (unsigned long long)due);
+}
+
+/* What stands behind the written octets is compared too. */
+int same(const struct job *job) {
+    memset(output, 7, sizeof output);
+    uint64_t due = run(&sides[PRODUCT], job);
+    memcpy(expected, output, sizeof output);
+    for (int i = PRODUCT + 1; i < SIDES; i++) {
+        if (!has(&sides[i], job))
+            continue;
+        memset(output, 7, sizeof output);
+        uint64_t answer = run(&sides[i], job);
+        if (answer != due || memcmp(expected, output, sizeof output)) {
+            say(job, &sides[i], answer, due);
+            return 0;
+        }
+    }
+    return 1;
+}
+
+enum { LONGER = 8 };
+
+/* A copy with room for a longer input. */
+static u8 *copied(in octets, size_t length) {
+    if (!octets)
+        return 0;
+    u8 *copy = calloc(length + LONGER, 1);
+    memcpy(copy, octets, length);
+    return copy;
+}
+
+/* One octet of the head, or any, becomes anything or one that means something. */
+static void spoil_record(u8 *record, size_t length) {
+    if (!record || drawn() % 3)
+        return;
+    size_t place = drawn() % (drawn() % 2 ? 18 : length);
+    record[place] = drawn() % 2 ? drawn() : drawn() % 2 ? 255 : 0;
+}
+
+static void spoil_input(u8 *input, size_t length) {
+    if (input && length && drawn() % 3 == 0)
+        input[drawn() % length] ^= drawn() % 3 ? 1 : drawn() % 4;
+}
+
+static void spoil_shelf(u8 *shelf) {
+    if (shelf && drawn() % 4 == 0)
+        shelf[drawn() % (2 + 8 * shelf[1])] ^= 1 << drawn() % 8;
+}
+
+static void spoil_tenant(struct job *job) {
+    if (drawn() % 8 == 0)
+        job->tenant += drawn() % 70;
+    if (drawn() % 20 == 0)
+        job->tenant = 0;
+}
+
+static void spoil_length(struct job *job) {
+    if (drawn() % 2)
+        job->input_length += drawn() % (LONGER + 1);
+    else
+        job->input_length -= drawn() % (job->input_length < 9 ? job->input_length + 1 : 9);
+}
+
+/* One number or length becomes another; a G of few symbol places is likely. */
+static void spoil_number(struct job *job) {
+    switch (drawn() % 8) {
+    case 0: job->z = drawn() % 100; break;
+    case 1: spoil_length(job); break;
+    case 2: job->nl = drawn() % 6; break;
+    case 3: job->qm = drawn() % 8; break;
+    case 4: job->g = drawn() % 2 ? drawn() % 66000 : drawn() % 200; break;
+    case 5: job->a += drawn() % 3; break;
+    case 6: job->room = drawn() % 66000; break;
+    default: job->record_length -= drawn() % (job->record_length < 3 ? job->record_length + 1 : 3);
+    }
+    if (job->kind == CRC || job->kind == CRC_OF_BITS)
+        job->z = 8 * (drawn() % 5);
+}
+
+enum { NUMBERS = 100 };
+
+static int answers_number(enum kind kind) { return kind != CRC && kind != CRC_OF_BITS && kind != PLAN && kind != LOOKUP; }
+
+/* Whether the sides agree on a broken copy; its number is counted. */
+static int same_broken(const struct job *whole, long seen[NUMBERS]) {
+    struct job job = *whole;
+    u8 *record = copied(job.record, job.record_length), *input = copied(job.input, job.input_length);
+    u8 *private = copied(job.private, job.private_length), *public = copied(job.public, job.public_length);
+    spoil_record(record, job.record_length);
+    spoil_input(input, job.input_length);
+    spoil_shelf(private);
+    spoil_shelf(public);
+    spoil_tenant(&job);
+    spoil_number(&job);
+    job.record = record, job.input = input, job.private = private, job.public = public;
+    int agree = same(&job);
+    uint64_t answer = run(&sides[PRODUCT], &job);
+    if (answers_number(job.kind) && answer < NUMBERS)
+        seen[answer]++;
+    free(record), free(input), free(private), free(public);
+    return agree;
+}
+
+void compare_broken(long count) {
+    long seen[NUMBERS] = { 0 }, differ = 0;
+    for (long k = 0; k < count; k++)
+        differ += !same_broken(&jobs[drawn() % job_count], seen);
+    printf("%d calls and %ld broken ones: %ld answered differently. Answered numbers, and how often (99: a word does not check):\n",
+           job_count, count, differ);
+    for (int number = 0; number < NUMBERS; number++)
+        if (seen[number])
+            printf(" %d:%ld", number, seen[number]);
+    printf("\n");
+    if (differ)
+        exit(1);
+}
