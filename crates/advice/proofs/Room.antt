@@ -51,10 +51,6 @@ module _ (R : List ℕ) (octets : ℕ) (cut : Cut R (blockBits octets)) where
   unfolding mostSendable
   some-sendable = omega (arith, sendable-is 0, cut .own-some 0)
 
-  pub few-sendable : mostSendable R octets ≤ 2592
-  unfolding mostSendable sendable
-  few-sendable = omega (arith, cut .coded-high)
-
   module _ (terms : Terms) (some : 0 < placeBits terms) where
     abbrev each : ℕ
     each = ceil (mostSendable R octets) (placeBits terms)

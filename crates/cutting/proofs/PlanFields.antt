@@ -8,7 +8,7 @@ use Rattle.cutting.specs.Plan.{blockBits, blocks, sizeIndex, places}
 use Rattle.cutting.specs.Promises.{planNumber, planned}
 use Rattle.cutting.specs.declared.Plan.{Plan}
 use Rattle.cutting.specs.steps.Plans.{SomePlan}
-use Rattle.cutting.proofs.Plans.{Cut, plan-passed, plan-cut, plan-number, plan-bits, plan-blocks, plan-places, plan-z, plan-index}
+use Rattle.cutting.proofs.Plans.{Cut, plan-passed, plan-cut, plan-bits, plan-blocks, plan-places, plan-z, plan-index}
 
 -- ---- the plan's fields, by the count of transport bits
 
@@ -21,9 +21,6 @@ pub record PlanFields (R : List ℕ) (p : Plan) : Type 0 where
   pub index-is : p .index ≡ sizeIndex R (p .bits)
 
 module _ (R : List ℕ) (octets : ℕ) (p : Plan) (plan : p ≡ planned R octets) where
-  pub number-is : p .number ≡ planNumber R octets
-  number-is = plan-number R octets p plan
-
   module _ (e : planNumber R octets ≡ 0) where
     pub bits-is : p .bits ≡ blockBits octets
     bits-is = plan-bits R octets p plan e
