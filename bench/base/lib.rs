@@ -132,8 +132,7 @@ macro_rules! sends {
 }
 
 sends! {
-    plain_send plain::send::tested;
-    plain_send_once plain::send::untested;
+    plain_send plain::send::send;
     limit_send limit::send::send;
 }
 
@@ -185,7 +184,7 @@ macro_rules! hosted {
 
 hosted! {
     plain_lookup plain_hosted_send plain_hosted_receive
-        plain::shelf::lookup, plain::send::tested, plain::receive::receive;
+        plain::shelf::lookup, plain::send::send, plain::receive::receive;
     limit_lookup limit_hosted_send limit_hosted_receive
         limit::shelf::lookup, limit::send::send, limit::receive::receive;
 }

@@ -1,5 +1,5 @@
 //! The best shape we know for the same answers: eight checksum tables, a group of bits in one u128, copies by memcpy.
-//! 15 is not tested: no accepted record is known that answers it. The gates are the plain ones.
+//! The gates are the plain ones.
 
 mod bits;
 pub mod checksum;

@@ -23,12 +23,11 @@ CALLS(product)
 CALLS(plain)
 CALLS(limit)
 crc_call plain_crc_bitwise;
-send_call plain_send_once;
 
 const struct side sides[SIDES] = {
     SIDE("product", product),
     SIDE("plain", plain),
-    { .name = "plain*", .crc = plain_crc_bitwise, .send = plain_send_once },
+    { .name = "plain*", .crc = plain_crc_bitwise },
     SIDE("limit", limit),
 };
 

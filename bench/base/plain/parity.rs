@@ -76,14 +76,9 @@ pub fn code(record: &[u8], z: usize, places: &[u8], out: &mut [u8]) -> Result<()
     let matrix = Matrix::of(&profile, profile.index_of(z)?, z);
     let coded = profile.coded(z);
     block_accepted(&profile, z, places, out.len())?;
-    let mut room = [0; WORD];
-    let word = &mut room[..coded];
+    let word = &mut out[..coded];
     word[..places.len()].copy_from_slice(places);
     matrix.code(word);
-    if !matrix.checks(word) {
-        return Err(15);
-    }
-    out[..coded].copy_from_slice(word);
     Ok(())
 }
 

@@ -1,57 +1,14 @@
-//! Sending a transport block: with the test for 15, each block coded once into one large room, and without it.
+//! Sending a transport block: each code block is coded and written at once.
 
 use super::checksum::by_octets;
 use super::judge::judge;
 use super::octets::unpack;
 use super::parity::{Matrix, WORD};
 use crate::record::{accepted, Plan, Profile, Terms};
-use core::cell::UnsafeCell;
 
 const BITS: usize = 8 * 2048 + 24;
 
-/// Room for all coded blocks, since 15 is decided before anything is written; a program would keep a Vec for it.
-struct Room(UnsafeCell<[u8; 64 * WORD]>);
-unsafe impl Sync for Room {}
-static ROOM: Room = Room(UnsafeCell::new([0; 64 * WORD]));
-
-/// As the product answers: every coded word is checked.
-pub fn tested(record: &[u8], block: &[u8], terms: Terms, out: &mut [u8]) -> Result<(), u32> {
-    let (profile, plan) = planned(record, block, terms, out.len())?;
-    let mut bits = [0; BITS];
-    carried(block, &mut bits[..plan.bits]);
-    let matrix = Matrix::of(&profile, plan.index, plan.z);
-    let all = unsafe { &mut *ROOM.0.get() };
-    let coded = profile.coded(plan.z);
-    code_all(matrix, &plan, &bits, all.chunks_exact_mut(coded))?;
-    let share = plan.share(terms);
-    for (r, (word, out)) in all.chunks_exact(coded).zip(out.chunks_exact_mut(share)).take(plan.blocks).enumerate() {
-        matched(word, plan.own(r), plan.places, out);
-    }
-    out[share * plan.blocks..terms.g].fill(0);
-    Ok(())
-}
-
-fn code_all<'a>(
-    matrix: Matrix,
-    plan: &Plan,
-    bits: &[u8],
-    words: impl Iterator<Item = &'a mut [u8]>,
-) -> Result<(), u32> {
-    let mut start = 0;
-    for (r, word) in words.take(plan.blocks).enumerate() {
-        let own = plan.own(r);
-        lay(&bits[start..start + own], plan.places, word);
-        matrix.code(word);
-        if !matrix.checks(word) {
-            return Err(15);
-        }
-        start += own;
-    }
-    Ok(())
-}
-
-/// As where 15 cannot be: each block is coded and written at once.
-pub fn untested(record: &[u8], block: &[u8], terms: Terms, out: &mut [u8]) -> Result<(), u32> {
+pub fn send(record: &[u8], block: &[u8], terms: Terms, out: &mut [u8]) -> Result<(), u32> {
     let (profile, plan) = planned(record, block, terms, out.len())?;
     let mut bits = [0; BITS];
     carried(block, &mut bits[..plan.bits]);

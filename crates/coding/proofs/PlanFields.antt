@@ -1,6 +1,5 @@
 -- What an accepted profile and its plan say of one block: the plan's fields, and the coded word that they are used for.
 use mathlib.Core.Path.{_≡_, ap, _∙_, subst}
-use mathlib.Core.Bool.{true}
 use mathlib.Core.List.{List}
 use Prim.Native.Nat.{ℕ, _+_, _*_, _≤_, _<_}
 use native.Mathlib.Nat.{add-mul, le-mul-of-pos-right, mul-comm}
@@ -14,12 +13,11 @@ use Rattle.profile.proofs.Shape.{columns-is}
 use Rattle.cutting.specs.Plan.{sizeIndex, places}
 use Rattle.cutting.specs.declared.Plan.{Plan}
 use Rattle.cutting.proofs.PlanFields.{PlanFields, places-product}
-use Rattle.parity.specs.Matrix.{checks}
-use Rattle.parity.specs.Coded.{hasParity, coded}
+use Rattle.parity.specs.Coded.{coded}
 use Rattle.parity.specs.steps.Grouped.{Shape, Codable, Solution}
 use Rattle.parity.proofs.Solve.{Solvable}
 use Rattle.parity.proofs.Ready.{table-shape, table-stairs, table-codable}
-use Rattle.parity.proofs.Coded.{solved-checks, solved-coded}
+use Rattle.parity.proofs.Coded.{solved-coded}
 use Rattle.matching.specs.steps.Places.{Filled}
 use Rattle.matching.proofs.Stretch.{word-filled}
 
@@ -66,17 +64,10 @@ module _ (R bits : List ℕ) (p : Plan) (k : PlanFields R p) (single : AreBits b
   unfolding sys mine
   sys-length = length-filled (p .places) mine (omega (arith, mine-length)) ∙ places-product R p k
 
-  -- its check answers whether there are parity bits
-  pub word-checks : checks (table R (p .index)) (rows R) (columns R) (p .z) w
-      ≡ hasParity (table R (p .index)) (rows R) (columns R) (p .z) (withFiller (p .places) (take own (drop start bits)))
+  -- it is the coded block
+  pub word-coded : w ≡ coded (table R (p .index)) (rows R) (columns R) (p .z) (withFiller (p .places) (take own (drop start bits)))
   unfolding sys
-  word-checks = solved-checks (table R (p .index)) (rows R) (columns R) (p .z) sys (kb R) sys-length (stairs-here R p k) w s
-
-  -- where there are, it is the coded block
-  pub word-coded : hasParity (table R (p .index)) (rows R) (columns R) (p .z) (withFiller (p .places) (take own (drop start bits))) ≡ true
-      → w ≡ coded (table R (p .index)) (rows R) (columns R) (p .z) (withFiller (p .places) (take own (drop start bits)))
-  unfolding sys
-  word-coded e = solved-coded (table R (p .index)) (rows R) (columns R) (p .z) sys (kb R) sys-length (stairs-here R p k) w s e
+  word-coded = solved-coded (table R (p .index)) (rows R) (columns R) (p .z) sys (kb R) sys-length (stairs-here R p k) w s
 
   -- its filler lies between its own bits and its parity bits
   pub word-filler : Filled w own (p .places)

@@ -1,12 +1,11 @@
 -- The receiver's walk over the blocks: what each test says of the gathered bits, and what all of them together say.
 use mathlib.Core.Path.{_≡_, refl, sym, ap, ap₂, _∙_}
-use mathlib.Core.Bool.{Bool, true, false, true≢false, not, _&&_}
+use mathlib.Core.Bool.{Bool, true, false, true≢false}
 use mathlib.Core.List.{List, _++_}
 use Prim.Native.Nat.{ℕ, zero, suc, _+_, _-_, _*_, _≤_, _<_}
 use native.Mathlib.Nat.{add-mul}
 use native.Mathlib.Numerals.{add-one}
 use native.Mathlib.Omega.{arith}
-use borrow.Author.Tests.{not-false}
 use lib.ListN.{length, getD, take, drop, replicate, length-drop, getD-replicate, length-replicate}
 use lib.Seq.{ext-getD, take-take}
 use Rattle.bits.specs.Bits.{same, someOver, withFiller}
@@ -15,7 +14,7 @@ use Rattle.bits.specs.declared.count.Terms.{Terms}
 use Rattle.bits.specs.steps.Places.{Laid}
 use Rattle.bits.proofs.Lists.{same-equal, same-self, length-part}
 use Rattle.bits.proofs.Over.{none-over}
-use Rattle.bits.proofs.Ranges.{any-none, none-any, both, last-or}
+use Rattle.bits.proofs.Ranges.{last-or}
 use Rattle.bits.proofs.Laid.{laid-front}
 use Rattle.profile.specs.Record.{kb, rows, columns, table}
 use Rattle.profile.proofs.Shape.{columns-is}
@@ -23,7 +22,7 @@ use Rattle.cutting.specs.Plan.{blockBits, blocks, ownBits}
 use Rattle.cutting.specs.Cutting.{ownStart, systematic}
 use Rattle.cutting.specs.declared.Plan.{Plan}
 use Rattle.cutting.proofs.PlanFields.{PlanFields, bits-is, plan-fields, places-product}
-use Rattle.coding.specs.Blocks.{blockHasParity, codedBlock, someWithoutParity}
+use Rattle.coding.specs.Blocks.{codedBlock}
 use Rattle.coding.specs.Allocation.{share}
 use Rattle.coding.specs.Joining.{blockSent, joined, radioBits}
 use Rattle.coding.specs.steps.Blocks.{blockSentAs}
@@ -53,7 +52,6 @@ zeros-over (suc n) = zeros-over n
 pub record Walk (R : List ℕ) (terms : Terms) (bits : List ℕ) (b : ℕ) (old : List ℕ) (r start from : ℕ) (room : List ℕ) : Type 0 where
   pub starts : start ≡ ownStart R b r
   pub stands : from ≡ sumBelow r (λ i. share terms (length bits) (blocks R b) i .0)
-  pub parity : (i : ℕ) → i < r → blockHasParity R b (gathered R b terms bits) i ≡ true
   pub sent : (i : ℕ) → i < r
       → blockSent R b (gathered R b terms bits) terms (length bits) i
       ≡ take (share terms (length bits) (blocks R b) i .0) (drop (sumBelow i (λ j. share terms (length bits) (blocks R b) j .0)) bits)
@@ -66,7 +64,6 @@ walk-none R terms bits b old =
     record {
       starts = sym (start-none R b);
       stands = refl;
-      parity = λ i h. absurd (omega arith);
       sent = λ i h. absurd (omega arith);
       front = refl;
       same = refl;
@@ -120,8 +117,8 @@ module _ (R : List ℕ) (terms : Terms) (bits : List ℕ) (p : Plan) (h : Receiv
     s-length = length-part e from bits (share-fits R p fields terms (length bits) r from e l a d)
 
     tested-is : blockSentAs (table R (p .index)) (rows R) (columns R) (p .z) (withFiller (p .places) (take n s)) s
-        ≡ blockHasParity R (p .bits) t r && same (blockSent R (p .bits) t terms (length bits) r) s
-    unfolding blockSentAs blockHasParity blockSent codedBlock
+        ≡ same (blockSent R (p .bits) t terms (length bits) r) s
+    unfolding blockSentAs blockSent codedBlock
     tested-is = let k = fields in rw (cut-here, s-length, k .index-is, k .z-is, d)
 
     stretch-is : radioBits R (p .bits) t terms (length bits) ≡ bits → blockSent R (p .bits) t terms (length bits) r ≡ s
@@ -131,16 +128,12 @@ module _ (R : List ℕ) (terms : Terms) (bits : List ℕ) (p : Plan) (h : Receiv
 
     -- what the test of the block says
     module _ (v : Bool) (tested : v ≡ blockSentAs (table R (p .index)) (rows R) (columns R) (p .z) (withFiller (p .places) (take n s)) s) where
-      both-tests : v ≡ true → (blockHasParity R (p .bits) t r ≡ true) × (blockSent R (p .bits) t terms (length bits) r ≡ s)
-      both-tests y =
-          let parts = both (blockHasParity R (p .bits) t r) (same (blockSent R (p .bits) t terms (length bits) r) s) (sym tested-is ∙ sym tested ∙ y) in
-          (parts .0, same-equal _ s (parts .1))
+      block-sent : v ≡ true → blockSent R (p .bits) t terms (length bits) r ≡ s
+      block-sent y = same-equal _ s (sym tested-is ∙ sym tested ∙ y)
 
-      pub block-other : v ≡ false → someWithoutParity R (p .bits) t ≡ false → radioBits R (p .bits) t terms (length bits) ≡ bits → ⊥
-      unfolding someWithoutParity
-      block-other y parity whole =
-          let has = not-false (blockHasParity R (p .bits) t r) (none-any (blocks R (p .bits)) (λ i. not (blockHasParity R (p .bits) t i)) parity r (omega (arith, fields .blocks-is))) in
-          let is : blockHasParity R (p .bits) t r && same (blockSent R (p .bits) t terms (length bits) r) s ≡ true = rw (has, stretch-is whole) (same-self s) in
+      pub block-other : v ≡ false → radioBits R (p .bits) t terms (length bits) ≡ bits → ⊥
+      block-other y whole =
+          let is : same (blockSent R (p .bits) t terms (length bits) r) s ≡ true = rw (stretch-is whole) (same-self s) in
           true≢false (sym is ∙ sym tested-is ∙ sym tested ∙ y)
 
       pub walk-more : (old room room' : List ℕ) (start : ℕ) → v ≡ true → 16408 ≤ length old → Walk R terms bits (p .bits) old r start from room
@@ -148,7 +141,6 @@ module _ (R : List ℕ) (terms : Terms) (bits : List ℕ) (p : Plan) (h : Receiv
       unfolding joined
       walk-more old room room' start y big w laid =
           let k = fields in
-          let ok = both-tests y in
           let fits = own-fits R p k r start n l (w .starts) q in
           let shares = share-fits R p k terms (length bits) r from e l a d in
           let less = room-here r n e l q d in
@@ -156,10 +148,9 @@ module _ (R : List ℕ) (terms : Terms) (bits : List ℕ) (p : Plan) (h : Receiv
           record {
             starts = ap₂ (λ (x y : ℕ). x + y) (w .starts) (own-is R p k r n q) ∙ sym (start-turn R (p .bits) r);
             stands = share-turn R p k terms (length bits) r from e a d;
-            parity = λ i u. last-or i r (omega arith) (λ b. w .parity i b) (λ b. ap (blockHasParity R (p .bits) t) b ∙ ok .0);
             sent = λ i u.
                 last-or i r (omega arith) (λ b. w .sent i b)
-                (λ b. ap (blockSent R (p .bits) t terms (length bits)) b ∙ ok .1 ∙ ap₂ (λ (x y : ℕ). take x (drop y bits)) (d ∙ ap given (sym b)) (a ∙ ap at (sym b)));
+                (λ b. ap (blockSent R (p .bits) t terms (length bits)) b ∙ block-sent y ∙ ap₂ (λ (x y : ℕ). take x (drop y bits)) (d ∙ ap given (sym b)) (a ∙ ap at (sym b)));
             front = laid-front bits room room' from n start (omega arith) inside laid ∙ rw (add-one r) (ap₂ (λ (x y : List ℕ). x ++ y) (w .front) own-here);
             same = laid .len ∙ w .same;
           }
@@ -187,14 +178,11 @@ module _ (R : List ℕ) (terms : Terms) (bits : List ℕ) (p : Plan) (h : Receiv
         sym goal-rest ∙ rest-sent R (p .bits) terms bits room-everywhere t whole ∙ ap (λ (n : ℕ). replicate n 0) count-is in
         true≢false (sym y ∙ ap (someOver 0) zeros ∙ zeros-over (length rest))
 
-    pub walk-done : someOver 0 rest ≡ false
-        → (someWithoutParity R (p .bits) t ≡ false) × (radioBits R (p .bits) t terms (length bits) ≡ bits) × (take (p .bits) room ≡ t)
-    unfolding someWithoutParity gathered shareStart ownStart
+    pub walk-done : someOver 0 rest ≡ false → (radioBits R (p .bits) t terms (length bits) ≡ bits) × (take (p .bits) room ≡ t)
+    unfolding gathered shareStart ownStart
     walk-done y =
         let k = fields in
-        let c = blocks R (p .bits) in
         let all : start ≡ p .bits = w .starts ∙ ap (ownStart R (p .bits)) (end ∙ k .blocks-is) ∙ k .cut .own-sum in (
-          any-none c (λ i. not (blockHasParity R (p .bits) t i)) (λ i u. ap not (w .parity i (omega (arith, k .blocks-is, end)))),
           all-sent R (p .bits) terms bits room-everywhere t (λ i u. w .sent i (omega (arith, k .blocks-is, end)))
               (goal-rest ∙ zeros-of rest y ∙ ap (λ (n : ℕ). replicate n 0) (sym count-is)),
           ap (λ (x : ℕ). take x room) (sym all) ∙ w .front ∙ ap (λ (n : ℕ). joined n (ownReceived R (p .bits) terms bits)) (end ∙ k .blocks-is),

@@ -1,24 +1,22 @@
 -- Receiving is decided: the received bits are sent by some block of the length that was asked for exactly when the gathered bits are sent as
 -- them and carry their checksum, and the block is then the octets of the gathered bits.
 use mathlib.Core.Path.{_≡_, refl, sym, ap, ap₂, _∙_, subst}
-use mathlib.Core.Bool.{Bool, true, false, not, true≢false}
+use mathlib.Core.Bool.{Bool, true, true≢false}
 use mathlib.Core.List.{List, _++_}
 use Prim.Native.Nat.{ℕ, _+_, _*_, _^_, _≤_, _<_}
 use native.Mathlib.Omega.{arith}
-use borrow.Author.Tests.{not-true}
 use lib.ListN.{length, drop}
 use lib.Seq.{sets, sets-eq}
-use Rattle.bits.specs.Bits.{AreOctets, same, digits, valueOf, unpacked, packed}
+use Rattle.bits.specs.Bits.{AreOctets, digits, valueOf, unpacked, packed}
 use Rattle.bits.specs.declared.count.Terms.{Terms}
 use Rattle.bits.proofs.Digits.{length-digits, digits-bits, digits-value, value-lt}
 use Rattle.bits.proofs.Lists.{same-equal, same-self}
 use Rattle.bits.proofs.Octets.{length-packed, length-unpacked, unpacked-bits, packed-octets, packed-unpacked}
-use Rattle.bits.proofs.Ranges.{any-of, first-some, both}
+use Rattle.bits.proofs.Ranges.{any-of, first-some}
 use Rattle.cutting.specs.Plan.{blockBits}
 use Rattle.cutting.specs.Transport.{transport}
 use Rattle.cutting.specs.steps.Plans.{checked}
 use Rattle.cutting.proofs.Transported.{length-transport, transport-bits, packed-transport, transport-packed, transport-checked}
-use Rattle.coding.specs.Blocks.{someWithoutParity}
 use Rattle.coding.specs.Joining.{radioBits}
 use Rattle.coding.specs.Receiving.{sentAs, nthBlock, someSentAs, receivedBlock}
 use Rattle.coding.specs.steps.Receiving.{gathered, Receivable, Decided}
@@ -50,20 +48,13 @@ module _ (octets : ℕ) where
 -- ---- sent as these bits
 
 module _ (R : List ℕ) (terms : Terms) (bits block : List ℕ) where
-  abbrev size : ℕ
-  size = blockBits (length block)
-
-  pub sent-as-is : sentAs R terms bits block ≡ true
-      → (someWithoutParity R (blockBits (length block)) (transport block) ≡ false) × (radioBits R (blockBits (length block)) (transport block) terms (length bits) ≡ bits)
+  pub sent-as-is : sentAs R terms bits block ≡ true → radioBits R (blockBits (length block)) (transport block) terms (length bits) ≡ bits
   unfolding sentAs
-  sent-as-is e =
-      let parts = both (not (someWithoutParity R size (transport block))) (same (radioBits R size (transport block) terms (length bits)) bits) e in
-      (not-true (someWithoutParity R size (transport block)) (parts .0), same-equal (radioBits R size (transport block) terms (length bits)) bits (parts .1))
+  sent-as-is e = same-equal (radioBits R (blockBits (length block)) (transport block) terms (length bits)) bits e
 
-  pub sent-as-of : someWithoutParity R (blockBits (length block)) (transport block) ≡ false
-      → radioBits R (blockBits (length block)) (transport block) terms (length bits) ≡ bits → sentAs R terms bits block ≡ true
+  pub sent-as-of : radioBits R (blockBits (length block)) (transport block) terms (length bits) ≡ bits → sentAs R terms bits block ≡ true
   unfolding sentAs
-  sent-as-of p e = rw (p, e) (same-self bits)
+  sent-as-of e = rw e (same-self bits)
 
 module _ (R : List ℕ) (octets : ℕ) (terms : Terms) (bits : List ℕ) (h : Receivable R octets terms bits) where
   abbrev b : ℕ
@@ -111,47 +102,44 @@ module _ (R : List ℕ) (octets : ℕ) (terms : Terms) (bits : List ℕ) (h : Re
   received-octets = nth-octets octets _
 
   pub received-is : someSentAs R octets terms bits ≡ true → receivedBlock R octets terms bits ≡ packed octets t
-  received-is e = block-only (receivedBlock R octets terms bits) received-length received-octets (sent-as-is R terms bits _ (received-sent e) .1)
+  received-is e = block-only (receivedBlock R octets terms bits) received-length received-octets (sent-as-is R terms bits _ (received-sent e))
 
   -- the tests that are made decide it, both ways
-  pub tests-enough : someWithoutParity R b t ≡ false → radioBits R b t terms (length bits) ≡ bits → checked t ≡ true → someSentAs R octets terms bits ≡ true
+  pub tests-enough : radioBits R b t terms (length bits) ≡ bits → checked t ≡ true → someSentAs R octets terms bits ≡ true
   unfolding blockBits
-  tests-enough p e s =
+  tests-enough e s =
       let long : length t ≡ blockBits octets = gathered-length R b terms bits room in
       let single = gathered-bits R b terms bits room in
       let back : transport (packed octets t) ≡ t = transport-packed octets t long single s in
       let size : length (packed octets t) ≡ octets = length-packed octets t in
       some-from (packed octets t) size (packed-octets octets t single (omega arith))
       (sent-as-of R terms bits (packed octets t)
-      (ap₂ (λ (n : ℕ) (u : List ℕ). someWithoutParity R (blockBits n) u) size back ∙ p)
       (ap₂ (λ (n : ℕ) (u : List ℕ). radioBits R (blockBits n) u terms (length bits)) size back ∙ e))
 
-  pub tests-needed : someSentAs R octets terms bits ≡ true
-      → (someWithoutParity R b t ≡ false) × (radioBits R b t terms (length bits) ≡ bits) × (checked t ≡ true)
+  pub tests-needed : someSentAs R octets terms bits ≡ true → (radioBits R b t terms (length bits) ≡ bits) × (checked t ≡ true)
   unfolding transport
   tests-needed e =
       let block = receivedBlock R octets terms bits in
       let is = sent-as-is R terms bits block (received-sent e) in
-      let back : transport block ≡ t = block-gathered block received-length (is .1) in (
-        ap₂ (λ (n : ℕ) (u : List ℕ). someWithoutParity R (blockBits n) u) (sym received-length) (sym back) ∙ is .0,
-        ap₂ (λ (n : ℕ) (u : List ℕ). radioBits R (blockBits n) u terms (length bits)) (sym received-length) (sym back) ∙ is .1,
+      let back : transport block ≡ t = block-gathered block received-length is in (
+        ap₂ (λ (n : ℕ) (u : List ℕ). radioBits R (blockBits n) u terms (length bits)) (sym received-length) (sym back) ∙ is,
         ap (checked) (sym back) ∙ transport-checked block,
       )
 
   -- ---- what the calls make of it
 
-  pub decided-unsent : (someWithoutParity R b t ≡ false → radioBits R b t terms (length bits) ≡ bits → checked t ≡ true → ⊥)
+  pub decided-unsent : (radioBits R b t terms (length bits) ≡ bits → checked t ≡ true → ⊥)
       → (out : List ℕ) → Decided R octets terms bits out (record { number = 14; count = 0 }) out
   decided-unsent fails out =
       record {
-        found = λ e. let x = tests-needed e in absurd (fails (x .0) (x .1) (x .2));
+        found = λ e. let x = tests-needed e in absurd (fails (x .0) (x .1));
         unsent = λ e. (refl, refl, refl);
       }
 
-  pub decided-found : someWithoutParity R b t ≡ false → radioBits R b t terms (length bits) ≡ bits → checked t ≡ true
+  pub decided-found : radioBits R b t terms (length bits) ≡ bits → checked t ≡ true
       → (out out' : List ℕ) → octets ≤ length out → out' ≡ sets out 0 (packed octets t) → Decided R octets terms bits out (record { number = 0; count = octets }) out'
-  decided-found p e s out out' enough w =
-      let some = tests-enough p e s in
+  decided-found e s out out' enough w =
+      let some = tests-enough e s in
       let long : length (packed octets t) ≡ octets = length-packed octets t in
       let fits : 0 + length (packed octets t) ≤ length out = omega arith in
       let end : 0 + length (packed octets t) ≡ octets = omega arith in

@@ -18,7 +18,7 @@ use Rattle.cutting.specs.declared.Plan.{Plan}
 use Rattle.cutting.specs.steps.Plans.{SomePlan}
 use Rattle.cutting.proofs.PlanFields.{some-fields, places-product}
 use Rattle.parity.specs.Matrix.{checks}
-use Rattle.parity.specs.Coded.{hasParity, coded}
+use Rattle.parity.specs.Coded.{coded}
 use Rattle.parity.proofs.Solve.{Solvable}
 use Rattle.parity.proofs.Coded.{coded-length, coded-take, coded-bits, coded-checks, coded-unique}
 use Rattle.matching.specs.Matching.{kept, matched}
@@ -142,24 +142,23 @@ module _ (T : List ℕ) (kb m rows columns z : ℕ) (S : Solvable T kb m rows co
         again = copies-at (own + rows * z) s (parts .0);
       } in
       let sent = held-sent (sys ++ tail) own (kb * z) (own + rows * z) F (count (sys ++ tail) whole-length whole-take whole-bits) (omega arith) s long held in
-      ap₂ (λ (a b : Bool). a && b) (one .0) (ap (λ (x : List ℕ). same x s) (ap (λ (w : List ℕ). matched w (length s)) (sym (one .1)) ∙ sent) ∙ same-self s)
+      ap (λ (x : List ℕ). same x s) (ap (λ (w : List ℕ). matched w (length s)) (sym one) ∙ sent) ∙ same-self s
 
   from-sent : blockSentAs T rows columns z sys s ≡ true → copiesAgree (own + rows * z) s && checks T rows columns z (sys ++ tail) ≡ true
   unfolding blockSentAs
   from-sent e =
       let w = coded T rows columns z sys in
-      let parts = both (hasParity T rows columns z sys) (same (matched w (length s)) s) e in
       let size : length w ≡ columns * z = coded-length T rows columns z sys kb sys-length (S .wide) in
       let front : take (kb * z) w ≡ sys = coded-take T rows columns z sys kb sys-length in
       let bits = coded-bits T rows columns z sys kb sys-length in
-      let held = sent-held w own (kb * z) (own + rows * z) (filled w size front bits) (count w size front bits) (omega arith) s long (same-equal _ _ (parts .1)) in
+      let held = sent-held w own (kb * z) (own + rows * z) (filled w size front bits) (count w size front bits) (omega arith) s long (same-equal _ _ e) in
       let rest-length : length (drop (kb * z) w) ≡ rows * z = length-drop (kb * z) w ∙ omega (arith, wide-z, add-mul kb rows z) in
       let rest : drop (kb * z) w ≡ tail =
       ext-getD 0 (drop (kb * z) w) tail (rest-length ∙ sym tail-length)
       (λ k l. getD-drop (kb * z) w k 0 ∙ held .second k (omega arith) ∙ sym (tail-at k (omega arith))) in
       let whole : sys ++ tail ≡ w = ap₂ (λ (a b : List ℕ). a ++ b) (sym front) (sym rest) ∙ take-append-drop (kb * z) w in
       ap₂ (λ (a b : Bool). a && b) (copies-of (own + rows * z) s (held .again))
-      (ap (checks T rows columns z) whole ∙ coded-checks T rows columns z sys (parts .0))
+      (ap (checks T rows columns z) whole ∙ coded-checks T rows columns z sys kb sys-length S)
 
   pub copies-and-checks : copiesAgree (own + rows * z) s && checks T rows columns z (withFiller (kb * z) (take own s) ++ take (rows * z) (drop own s))
       ≡ blockSentAs T rows columns z (withFiller (kb * z) (take own s)) s

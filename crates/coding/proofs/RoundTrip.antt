@@ -3,6 +3,7 @@ use mathlib.Core.Path.{_≡_, refl, sym, ap, _∙_, subst}
 use mathlib.Core.Bool.{Bool, true, false, cond, not}
 use mathlib.Core.List.{List, [], _∷_, _++_}
 use Prim.Native.Nat.{ℕ, zero, suc, _-_, _*_, _/_, _%_, _^_, _≤_, _<_}
+use native.Mathlib.Nat.{le-refl}
 use native.Mathlib.Omega.{arith}
 use borrow.Author.Tests.{le-leb, eq-eqb, eqb-false}
 use lib.Dec.{eqb, lit<}
@@ -13,11 +14,10 @@ use Rattle.bits.specs.Numbers.{answered}
 use Rattle.bits.specs.Ranges.{sumBelow, firstBelow, within, listBelow}
 use Rattle.bits.specs.declared.number.Written.{Written}
 use Rattle.bits.specs.declared.count.Terms.{Terms}
-use Rattle.bits.proofs.Answers.{applies, passes, passed, none-left, Refusals, last-part, when-done, when-refused}
+use Rattle.bits.proofs.Answers.{applies, passes, none-left, Refusals, last-part, when-done, when-refused}
 use Rattle.bits.proofs.Digits.{digits-bits}
 use Rattle.bits.proofs.Lists.{bits-append, bits-take, bits-drop, bits-zeros}
 use Rattle.bits.proofs.Over.{bits-not-over}
-use Rattle.bits.proofs.Ranges.{equal-or}
 use Rattle.bits.proofs.Sums.{sum-same}
 use Rattle.bits.proofs.Listed.{length-list}
 use Rattle.profile.specs.Record.{z, rows, columns, table}
@@ -28,15 +28,14 @@ use Rattle.cutting.proofs.Plans.{plan-passed, plan-cut}
 use Rattle.cutting.proofs.Transported.{transport-bits}
 use Rattle.parity.specs.Coded.{withParity, checksWith, coded}
 use Rattle.matching.specs.Matching.{kept, matched}
-use Rattle.coding.specs.Blocks.{codedBlock, someWithoutParity}
+use Rattle.coding.specs.Blocks.{codedBlock}
 use Rattle.coding.specs.Allocation.{share}
 use Rattle.coding.specs.Joining.{blockSent, joined, padded, radioBits}
 use Rattle.coding.specs.Receiving.{someSentAs, receivedBlock, someWithoutRoom}
 use Rattle.coding.specs.Promises.{requestConditions, sendNumber, notOctets, receiveNumber, Sent, Received}
 use Rattle.coding.specs.RoundTrip.{Roomy, NoneSentAs}
-use Rattle.coding.specs.steps.Numbers.{requestNumber}
 use Rattle.coding.specs.steps.Receiving.{Receivable, Decided}
-use Rattle.coding.proofs.Answers.{send-first, send-last}
+use Rattle.coding.proofs.Answers.{send-done}
 use Rattle.coding.proofs.Joining.{length-joined, joined-bits}
 use Rattle.coding.proofs.Received.{sent-as-is, sent-as-of, block-only, some-from, received-is, received-sent, received-length, received-octets}
 use Rattle.coding.proofs.Shares.{shares-fit, allocated}
@@ -132,30 +131,18 @@ inside n low high = rw (le-leb 1 n low, le-leb n 2048 high)
 
 -- ---- what an accepted call of `send` has passed, and what it left in front
 
--- what a transport block is sent as, and whether it cannot be
+-- what a transport block is sent as
 abbrev radio : List ℕ → List ℕ → Terms → ℕ → List ℕ
 radio R block = radioBits R (blockBits (length block)) (transport block)
 
-abbrev unsendable : List ℕ → List ℕ → Bool
-unsendable R block = someWithoutParity R (blockBits (length block)) (transport block)
-
 radio-length : (R block : List ℕ) (terms : Terms) (g : ℕ) → length (radio R block terms g) ≡ g
 radio-length R block = sent-length R (blockBits (length block)) (transport block)
-
-send-passed : (R block : List ℕ) (terms : Terms) (g : ℕ) (out : List ℕ) → sendNumber R block terms g (length out) ≡ 0 → unsendable R block ≡ false
-send-passed R block terms g out e =
-    equal-or (requestNumber R (length block) terms g g (length out)) 0
-    (λ t. passed 15 [] (unsendable R block) (lit< tt) (sym (send-last R block terms g out t) ∙ e) .0)
-    (λ n. absurd (n (send-first R block terms g out n ∙ e)))
 
 module _ {R block : List ℕ} {terms : Terms} {g : ℕ} {out : List ℕ} {r : Written} {o : List ℕ} (s : Sent R block terms g out r o) (done : r .number ≡ 0) where
   pub sent-front : take g o ≡ radioBits R (blockBits (length block)) (transport block) terms g
   sent-front =
       ap (take g) (s .output ∙ when-done (sendNumber R block terms g (length out)) (radio R block terms g ++ drop g out) out (sym (s .number) ∙ done))
       ∙ take-at (radio R block terms g) (drop g out) g (radio-length R block terms g)
-
-  sent-parity : unsendable R block ≡ false
-  sent-parity = send-passed R block terms g out (sym (s .number) ∙ done)
 
   -- so it is sent as what it left
   sent-size : length (take g o) ≡ g
@@ -168,23 +155,20 @@ module _ {R block : List ℕ} {terms : Terms} {g : ℕ} {out : List ℕ} {r : Wr
   sent-single k =
       subst (λ (l : List ℕ). getD l k 0 < 2) (sym sent-front) (sent-bits R (blockBits (length block)) (transport block) terms g (transport-bits block) k)
 
--- ---- a call of `send` that is done, into an output as long as the bits
+-- ---- where every block has room, a call of `send` whose output holds the bits is done
 
-module _ (R block : List ℕ) (terms : Terms) (bits : List ℕ) (h : Roomy R (length block) terms (length bits)) (parity : unsendable R block ≡ false) where
-  send-done : sendNumber R block terms (length bits) (length bits) ≡ 0
-  unfolding requestNumber
-  send-done =
+module _ {R : List ℕ} (block : List ℕ) {terms : Terms} {g : ℕ} (h : Roomy R (length block) terms g) where
+  none-refuses : (room : ℕ) → g ≤ room → sendNumber R block terms g room ≡ 0
+  unfolding sendNumber
+  none-refuses room enough =
       let octets = length block in
-      let g = length bits in
       let p = plan-passed R octets (h .taken) in
-      let first : requestNumber R octets terms g g g ≡ 0 =
-      request-none R octets terms g g g (not (within 1 2048 octets)) (ap not (inside octets (p .1) (p .2))) (h .taken) (h .allocation) (h .enough) (omega arith) in
-      send-last R block terms g bits first ∙ passes 15 [] parity ∙ none-left
+      request-none R octets terms g g room (not (within 1 2048 octets)) (ap not (inside octets (p .1) (p .2))) (h .taken) (h .allocation) (h .enough) enough
 
-  sent-done : Sent R block terms (length bits) bits (record { number = 0; count = length bits }) (radio R block terms (length bits) ++ drop (length bits) bits)
-  sent-done =
-      let n = sendNumber R block terms (length bits) (length bits) in
-      record { number = sym send-done; count = sym (when-done n (length bits) 0 send-done); output = sym (when-done n _ bits send-done) }
+  pub sent-always : {out : List ℕ} {r : Written} {o : List ℕ} → g ≤ length out → Sent R block terms g out r o → (r .number ≡ 0) × (r .count ≡ g)
+  sent-always {out} enough s =
+      let done = none-refuses (length out) enough in
+      (s .number ∙ done, s .count ∙ when-done (sendNumber R block terms g (length out)) g 0 done)
 
 -- ---- received bits that no number before 14 refuses
 
@@ -237,11 +221,11 @@ module _ {R : List ℕ} {octets : ℕ} {terms : Terms} {bits buf : List ℕ} {r 
       (decided-whole v (subst (λ (n : ℕ). Roomy R n terms (length bits)) (sym q) h) (omega arith) single (omega arith))
 
   -- a block that is sent as the bits is what is received
-  back : (block : List ℕ) → AreOctets block → length block ≡ octets → unsendable R block ≡ false → radio R block terms (length bits) ≡ bits
+  back : (block : List ℕ) → AreOctets block → length block ≡ octets → radio R block terms (length bits) ≡ bits
       → (r .number ≡ 0) × (r .count ≡ octets) × (buf' ≡ block ++ drop octets buf)
-  back block whole size parity is =
+  back block whole size is =
       let H = receivable R octets terms bits h single in
-      let some = some-from R octets terms bits H block size whole (sent-as-of R terms bits block parity is) in
+      let some = some-from R octets terms bits H block size whole (sent-as-of R terms bits block is) in
       let got = decided .found some in
       let same-block : receivedBlock R octets terms bits ≡ block =
       received-is R octets terms bits H some ∙ sym (block-only R octets terms bits H block size whole is) in
@@ -252,10 +236,12 @@ module _ {R : List ℕ} {octets : ℕ} {terms : Terms} {bits buf : List ℕ} {r 
 -- "Two different transport blocks are never sent as the same bits"
 pub sent-apart : {R block block' : List ℕ} {terms : Terms} {g : ℕ} {out : List ℕ} {r : Written} {o out' : List ℕ} {r' : Written} {o' : List ℕ}
     → Roomy R (length block) terms g → AreOctets block → AreOctets block' → length block ≡ length block'
-    → Sent R block terms g out r o → r .number ≡ 0 → Sent R block' terms g out' r' o' → r' .number ≡ 0
+    → g ≤ length out → Sent R block terms g out r o → g ≤ length out' → Sent R block' terms g out' r' o'
     → take g o ≡ take g o' → block ≡ block'
-sent-apart {R} {block} {block'} {terms} {g} {o = o} h whole whole' size s done s' done' e =
+sent-apart {R} {block} {block'} {terms} {g} {o = o} h whole whole' size room s room' s' e =
     let bits = take g o in
+    let done = sent-always block h room s .0 in
+    let done' = sent-always block' (subst (λ (n : ℕ). Roomy R n terms g) size h) room' s' .0 in
     let long : length bits ≡ g = sent-size s done in
     let H = receivable R (length block) terms bits (subst (λ (n : ℕ). Roomy R (length block) terms n) (sym long) h) (sent-single s done) in
     let there : radio R block' terms (length bits) ≡ bits = ap (radio R block' terms) long ∙ sym (sent-front s' done') ∙ sym e in
@@ -265,13 +251,12 @@ sent-apart {R} {block} {block'} {terms} {g} {o = o} h whole whole' size s done s
 -- "receiving the sent bits returns the block"
 pub sent-returns : {R block : List ℕ} {terms : Terms} {g : ℕ} {out : List ℕ} {r : Written} {o buf : List ℕ} {r' : Written} {buf' : List ℕ}
     → Roomy R (length block) terms g → AreOctets block → length block ≤ length buf
-    → Sent R block terms g out r o → r .number ≡ 0 → Received R (8 * length block) terms (take g o) buf r' buf'
+    → g ≤ length out → Sent R block terms g out r o → Received R (8 * length block) terms (take g o) buf r' buf'
     → (r' .number ≡ 0) × (r' .count ≡ length block) × (take (length block) buf' ≡ block) × (buf' ≡ block ++ drop (length block) buf)
-sent-returns {R} {block} {terms} {g} {o = o} {buf = buf} h whole fits s done v =
-    let bits = take g o in
+sent-returns {R} {block} {terms} {g} {o = o} {buf = buf} h whole fits room s v =
+    let done = sent-always block h room s .0 in
     let here = subst (λ (n : ℕ). Roomy R (length block) terms n) (sym (sent-size s done)) h in
-    let is = sent-back s done in
-    let got = back here (sent-single s done) fits v block whole refl (sent-parity s done) is in
+    let got = back here (sent-single s done) fits v block whole refl (sent-back s done) in
     (got .0, got .1, ap (take (length block)) (got .2) ∙ take-at block (drop (length block) buf) (length block) refl, got .2)
 
 -- "and received noughts and ones, as many as the allocation gives, are refused as unsent exactly when no transport block of that length is
@@ -282,9 +267,13 @@ pub unsent-exactly : {R : List ℕ} {octets : ℕ} {terms : Terms} {bits buf : L
     × (NoneSentAs (λ block out r out'. Sent R block terms (length bits) out r out') octets bits → r .number ≡ 14)
 unsent-exactly {R} {octets} {terms} {bits} {buf} {r} h single fits v = (none, only)
   where
+    roomy : (block : List ℕ) → length block ≡ octets → Roomy R (length block) terms (length bits)
+    roomy block size = subst (λ (n : ℕ). Roomy R n terms (length bits)) (sym size) h
+
     none : r .number ≡ 14 → NoneSentAs (λ block out r out'. Sent R block terms (length bits) out r out') octets bits
-    none e block whole size out w out' s done is =
-        let got = back h single fits v block whole size (sent-parity s done) (sym (sent-front s done) ∙ is) in
+    none e block whole size out w out' room s is =
+        let done = sent-always block (roomy block size) room s .0 in
+        let got = back h single fits v block whole size (sym (sent-front s done) ∙ is) in
         omega (arith, got .0, e)
 
     only : NoneSentAs (λ block out r out'. Sent R block terms (length bits) out r out') octets bits → r .number ≡ 14
@@ -299,7 +288,7 @@ unsent-exactly {R} {octets} {terms} {bits} {buf} {r} h single fits v = (none, on
             let block = receivedBlock R octets terms bits in
             let is = sent-as-is R terms bits block (received-sent R octets terms bits H e) in
             let size = received-length R octets terms bits H in
-            let here = subst (λ (n : ℕ). Roomy R n terms (length bits)) (sym size) h in
             let g = length bits in
-            absurd (no-call block (received-octets R octets terms bits H) size bits _ _ (sent-done R block terms bits here (is .0)) refl
-            (take-at (radio R block terms g) (drop g bits) g (radio-length R block terms g) ∙ is .1))
+            let sent = send-done R block terms g bits (none-refuses block (roomy block size) g (le-refl g)) _ refl in
+            absurd (no-call block (received-octets R octets terms bits H) size bits _ _ (le-refl g) sent
+            (take-at (radio R block terms g) (drop g bits) g (radio-length R block terms g) ∙ is))

@@ -15,9 +15,9 @@ use Rattle.cutting.specs.Plan.{blocks, ownBits, filler}
 use Rattle.cutting.specs.Cutting.{ownStart, own, systematic}
 use Rattle.cutting.specs.declared.Plan.{Plan}
 use Rattle.cutting.proofs.PlanFields.{PlanFields}
-use Rattle.parity.specs.Coded.{hasParity, coded}
+use Rattle.parity.specs.Coded.{coded}
 use Rattle.matching.specs.Matching.{matched}
-use Rattle.coding.specs.Blocks.{blockHasParity, codedBlock, sendable}
+use Rattle.coding.specs.Blocks.{codedBlock, sendable}
 use Rattle.coding.specs.Allocation.{share}
 use Rattle.coding.specs.Joining.{blockSent}
 use Rattle.coding.proofs.Shares.{shares-fit}
@@ -60,10 +60,6 @@ module _ (R : List ℕ) (p : Plan) (k : PlanFields R p) where
     cut-is : withFiller (p .places) (take n (drop start bits)) ≡ systematic R (p .bits) bits r
     unfolding systematic own
     cut-is = rw (own-is r n e, s, k .places-is)
-
-    pub parity-is : hasParity (table R (p .index)) (rows R) (columns R) (p .z) (withFiller (p .places) (take n (drop start bits))) ≡ blockHasParity R (p .bits) bits r
-    unfolding blockHasParity
-    parity-is = rw (cut-is, k .index-is, k .z-is)
 
     pub coded-is : coded (table R (p .index)) (rows R) (columns R) (p .z) (withFiller (p .places) (take n (drop start bits))) ≡ codedBlock R (p .bits) bits r
     unfolding codedBlock

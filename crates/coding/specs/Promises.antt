@@ -14,7 +14,6 @@ use Rattle.bits.specs.declared.count.Terms.{Terms}
 use Rattle.profile.specs.Promises.{judgeConditions}
 use Rattle.cutting.specs.Plan.{blockBits, blocks}
 use Rattle.cutting.specs.Transport.{transport}
-use Rattle.coding.specs.Blocks.{someWithoutParity}
 use Rattle.coding.specs.Allocation.{misallocated, symbolPlaces}
 use Rattle.coding.specs.Joining.{radioBits}
 use Rattle.coding.specs.Receiving.{someSentAs, receivedBlock, someWithoutRoom}
@@ -40,7 +39,6 @@ requestConditions R other octets terms g need lent =
 abbrev pub sendConditions : List ℕ → List ℕ → Terms → ℕ → ℕ → List (ℕ × Bool)
 sendConditions R block terms g lent =
     requestConditions R (not (within 1 2048 (length block))) (length block) terms g g lent
-    ++ ((15, someWithoutParity R (blockBits (length block)) (transport block)) ∷ [])
 
 unfoldable pub sendNumber : List ℕ → List ℕ → Terms → ℕ → ℕ → ℕ
 sendNumber R block terms g lent = answered (sendConditions R block terms g lent)

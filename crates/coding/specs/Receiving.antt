@@ -1,6 +1,6 @@
 -- Receiving (document 01, "From block to radio bits"): "Where E ≥ N in every block it accepts exactly the bits that sending some transport
 -- block of that length gives". R is the profile's record, bits the received bits, whose number is G.
-use mathlib.Core.Bool.{Bool, not, _&&_}
+use mathlib.Core.Bool.{Bool}
 use mathlib.Core.List.{List}
 use Prim.Native.Nat.{ℕ, _*_, _^_}
 use lib.Dec.{ltb}
@@ -10,15 +10,13 @@ use Rattle.bits.specs.Ranges.{anyBelow, firstBelow}
 use Rattle.bits.specs.declared.count.Terms.{Terms}
 use Rattle.cutting.specs.Plan.{blockBits, blocks}
 use Rattle.cutting.specs.Transport.{transport}
-use Rattle.coding.specs.Blocks.{someWithoutParity, sendable}
+use Rattle.coding.specs.Blocks.{sendable}
 use Rattle.coding.specs.Allocation.{share}
 use Rattle.coding.specs.Joining.{radioBits}
 
--- a transport block is sent as these bits: it can be sent, and is sent so
+-- a transport block is sent as these bits
 unfoldable pub sentAs : List ℕ → Terms → List ℕ → List ℕ → Bool
-sentAs R terms bits block =
-    not (someWithoutParity R (blockBits (length block)) (transport block))
-    && same (radioBits R (blockBits (length block)) (transport block) terms (length bits)) bits
+sentAs R terms bits block = same (radioBits R (blockBits (length block)) (transport block) terms (length bits)) bits
 
 -- the transport blocks of so many octets: the n-th, for n from 0 to 2^(8·octets) − 1, has the digits of n as its bits
 unfoldable pub nthBlock : ℕ → ℕ → List ℕ

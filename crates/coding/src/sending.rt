@@ -1,42 +1,16 @@
-// Sending transport bits: every block tested for parity bits, then each block's bits straight into its own stretch of the output.
+// Sending transport bits: each block's bits straight into its own stretch of the output, and zeros in what is left.
 use crate::blocks;
 use crate::inner;
 use bits::count::CodedBits;
 use bits::count::Terms;
-use bits::number::DONE;
-use bits::number::NO_PARITY;
-use bits::number::Written;
 use cutting::Plan;
 ghost use mathlib.Core.Path.{_≡_};
-ghost use mathlib.Core.Bool.{false, not};
 ghost use mathlib.Core.List.{_++_};
 ghost use Prim.Native.Nat.{_≤_};
 ghost use lib.ListN.{length, drop, replicate};
-ghost use Rattle.cutting.specs.Plan.{blocks};
-ghost use Rattle.cutting.specs.steps.Plans.{Ready};
-ghost use Rattle.coding.specs.Blocks.{someWithoutParity};
+ghost use Rattle.coding.specs.Joining.{radioBits};
 ghost use Rattle.coding.specs.steps.Blocks.{Fits};
-ghost use Rattle.coding.specs.steps.Sending.{Sendable, BlocksSent, BitsSent};
-
-// Whether every block has parity bits with which it checks.
-fn all_have_parity(profile: &[u8], plan: Plan, bits: &[u8], word: &mut [u8]) -> bool
-    requires { ⌜ Ready (now profile) (now bits) plan × Fits (now profile) plan (now word) ⌝ }
-    ensures { λ r. ⌜ r ≡ not (someWithoutParity (now (profile .entry)) (plan .bits) (now (bits .entry))) ⌝ }
-{
-    let b = plan.bits;
-    let c = plan.blocks;
-    let mut start = 0;
-    let mut r = 0;
-    while r < c {
-        let own = cutting::inner::own_bits(b, c, r);
-        if !blocks::has_parity(profile, plan, bits, start, own, word) {
-            return false;
-        }
-        start += own;
-        r += 1;
-    }
-    true
-}
+ghost use Rattle.coding.specs.steps.Sending.{Sendable, BlocksSent};
 
 // Writes the blocks one behind the other, and answers where they end.
 fn send_blocks(
@@ -48,7 +22,7 @@ fn send_blocks(
     word: &mut [u8],
     out: &mut [u8],
 ) -> usize
-    requires { ⌜ Sendable (now profile) plan (now bits) terms (g .0) (now out) × Fits (now profile) plan (now word) × (someWithoutParity (now profile) (plan .bits) (now bits) ≡ false) ⌝ }
+    requires { ⌜ Sendable (now profile) plan (now bits) terms (g .0) (now out) × Fits (now profile) plan (now word) ⌝ }
     ensures { λ at. ⌜ BlocksSent (now (profile .entry)) (plan .bits) (now (bits .entry)) terms (g .0) (now (out .entry)) at (now (out .exit)) ⌝ }
 {
     let b = plan.bits;
@@ -79,7 +53,7 @@ fn clear(out: &mut [u8], n: usize)
     }
 }
 
-// Sends transport bits in `word`, room for one coded block. 15 is decided before anything is written.
+// Sends transport bits in `word`, room for one coded block.
 fn send_in(
     profile: &[u8],
     plan: Plan,
@@ -88,23 +62,13 @@ fn send_in(
     g: CodedBits,
     word: &mut [u8],
     out: &mut [u8],
-) -> Written
+)
     requires { ⌜ Sendable (now profile) plan (now bits) terms (g .0) (now out) × Fits (now profile) plan (now word) ⌝ }
-    ensures { λ r. ⌜ BitsSent (now (profile .entry)) (plan .bits) (now (bits .entry)) terms (g .0) (now (out .entry)) r (now (out .exit)) ⌝ }
+    ensures { λ _. ⌜ now (out .exit) ≡ radioBits (now (profile .entry)) (plan .bits) (now (bits .entry)) terms (g .0) ++ drop (g .0) (now (out .entry)) ⌝ }
 {
-    if !all_have_parity(profile, plan, bits, word) {
-        return Written {
-            number: NO_PARITY,
-            count: 0,
-        };
-    }
     let all = g.0;
     let at = send_blocks(profile, plan, bits, terms, g, word, out);
     clear(&mut out[at..], all - at);
-    Written {
-        number: DONE,
-        count: all,
-    }
 }
 
 // Sends transport bits, with room for one coded block of its own.
@@ -115,11 +79,11 @@ pub fn send_bits(
     terms: Terms,
     g: CodedBits,
     out: &mut [u8],
-) -> Written
+)
     requires { ⌜ Sendable (now profile) plan (now bits) terms (g .0) (now out) ⌝ }
-    ensures { λ r. ⌜ BitsSent (now (profile .entry)) (plan .bits) (now (bits .entry)) terms (g .0) (now (out .entry)) r (now (out .exit)) ⌝ }
+    ensures { λ _. ⌜ now (out .exit) ≡ radioBits (now (profile .entry)) (plan .bits) (now (bits .entry)) terms (g .0) ++ drop (g .0) (now (out .entry)) ⌝ }
 {
     let n = blocks::size(profile, plan);
     let mut room = [0u8; 2592];
-    send_in(profile, plan, bits, terms, g, &mut room[..n], out)
+    send_in(profile, plan, bits, terms, g, &mut room[..n], out);
 }

@@ -23,7 +23,7 @@ the output is shorter than the result
 a received octet is over 1
 a code block has no room for all its coded bits
 no block is sent as these bits
-a code block has no parity bits with which it checks
+unused: never answered, since every code block has parity bits with which it checks
 ";
     page::put(list::line(all, number as usize), page, at)
 }

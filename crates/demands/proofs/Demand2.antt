@@ -1,6 +1,6 @@
 -- The second demand, sentence by sentence, over the promises of the calls.
 use mathlib.Core.Path.{_≡_, sym, _∙_, subst}
-use mathlib.Core.Bool.{true, false}
+use mathlib.Core.Bool.{true}
 use mathlib.Core.List.{List}
 use mathlib.Core.Logic.{_⊎_, inl}
 use Prim.Native.Nat.{ℕ, _-_, _*_, _≤_, _<_}
@@ -16,9 +16,7 @@ use Rattle.bits.proofs.Ranges.{below-or, last-or}
 use Rattle.profile.specs.Record.{kb, t, z}
 use Rattle.cutting.specs.Plan.{blockBits, blocks, sizeIndex}
 use Rattle.cutting.specs.Promises.{planConditions, planNumber}
-use Rattle.cutting.specs.Transport.{transport}
 use Rattle.cutting.proofs.Plans.{plan-cut}
-use Rattle.coding.specs.Blocks.{someWithoutParity}
 use Rattle.coding.specs.Promises.{sendNumber, Sent, Received}
 use Rattle.coding.proofs.RoundTrip.{sent-front}
 use Rattle.shelf.specs.Shelf.{privateShelf}
@@ -37,22 +35,22 @@ use Rattle.demands.proofs.Steps.{steps, steps-only}
 -- ---- "Sending gives bit for bit what 5G.212 v2.3 defines, as document 01 states it"
 
 module _ {R block : List ℕ} {terms : Terms} {g : ℕ} {out : List ℕ} {r : Written} {o : List ℕ} (s : Sent R block terms g out r o) (done : r .number ≡ 0) where
-  passed : (planNumber R (length block) ≡ 0) × (someWithoutParity R (blockBits (length block)) (transport block) ≡ false)
+  passed : planNumber R (length block) ≡ 0
   unfolding NoneHolds planNumber
   passed =
       let h = send-number s .only-done done in
-      (none-answered (planConditions R (length block)) (h .0, (h .1 .0, (h .1 .1 .0, (h .1 .1 .1 .1 .0, tt)))), h .1 .1 .1 .1 .1 .1 .1 .0)
+      none-answered (planConditions R (length block)) (h .0, (h .1 .0, (h .1 .1 .0, (h .1 .1 .1 .1 .0, tt))))
 
   -- where sending answers 0 (when it does is in Demand1), G octets are written, and they follow the six steps
   pub sends : (r .count ≡ g) × (Steps R block terms g (take g o))
   sends = (
     s .count ∙ when-done (sendNumber R block terms g (length out)) g 0 (sym (s .number) ∙ done),
-    subst (Steps R block terms g) (sym (sent-front s done)) (steps R block terms g (passed .0) (passed .1)),
+    subst (Steps R block terms g) (sym (sent-front s done)) (steps R block passed terms g),
   )
 
   -- and no other bits follow them
   pub sends-only : (bits : List ℕ) → Steps R block terms g bits → bits ≡ take g o
-  sends-only bits h = steps-only R block terms g (passed .0) (passed .1) bits h ∙ sym (sent-front s done)
+  sends-only bits h = steps-only R block passed terms g bits h ∙ sym (sent-front s done)
 
 -- the same over the hosted call, with the record that was found
 module _ {private public : List ℕ} {t p : ℕ} {block : List ℕ} {terms : Terms} {g : ℕ} {out : List ℕ} {r : Written} {o : List ℕ}

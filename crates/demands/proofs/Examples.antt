@@ -25,17 +25,17 @@ use Rattle.cutting.specs.Cutting.{ownStart, own, systematic}
 use Rattle.cutting.proofs.Plans.{plan-cut}
 use Rattle.cutting.proofs.Transported.{generator-24}
 use Rattle.parity.specs.Matrix.{square, spread, bitAt, rowEven, checks}
-use Rattle.parity.specs.Coded.{withParity, checksWith, hasParity, coded}
+use Rattle.parity.specs.Coded.{withParity, checksWith, coded}
 use Rattle.matching.specs.Matching.{kept, matched}
 use Rattle.coding.specs.Allocation.{misallocated, symbolPlaces, share}
-use Rattle.coding.specs.Blocks.{codedBlock, blockHasParity, someWithoutParity, sendable}
+use Rattle.coding.specs.Blocks.{codedBlock, sendable}
 use Rattle.coding.specs.Receiving.{someWithoutRoom}
 use Rattle.coding.specs.Promises.{tooFewPlaces, sendNumber, Sent, notOctets, receiveNumber, Received}
 use Rattle.coding.specs.Joining.{blockSent, joined, padded, radioBits}
 use Rattle.coding.specs.RoundTrip.{Roomy}
 use Rattle.coding.specs.steps.Receiving.{shareStart, ownReceived, gathered, Receivable}
 use Rattle.coding.specs.steps.Numbers.{cutNumber}
-use Rattle.coding.proofs.RoundTrip.{sent-front, sent-returns, unsent-exactly}
+use Rattle.coding.proofs.RoundTrip.{sent-front, sent-always, sent-returns, unsent-exactly}
 use Rattle.coding.proofs.Shares.{allocated}
 use Rattle.coding.proofs.Received.{block-gathered}
 use Rattle.shelf.specs.Promises.{HostedReceived}
@@ -84,10 +84,8 @@ abbrev pub sendingDue : Sending → ℕ
 sendingDue c = c .due
 
 pub sendings-answered : map sending sendings ≡ map sendingDue sendings
-unfolding sendings bent toy sendNumber answered misallocated usable tooFewPlaces share symbolPlaces placeBits symbolPlacesOf codedBitsOf numberAt digits readOn valueOf unpacked sumBelow parityBelow
-    allBelow anyBelow firstBelow reduce divideOn remainder checksum attached kb m t z offset rows columns tableSize table entry headerRight rises sizesRight offsetDue offsetsRight endsRight shiftRight
-    tableRight wellFormed filled filledBetween firstColumn nextDue nextColumn staircase staircases ceil blockBits kmax blocks ownBits sizeIndexFor sizeIndex places filler square spread bitAt
-    rowEven checks withParity checksWith hasParity transport ownStart own withFiller systematic blockHasParity someWithoutParity
+unfolding sendings bent toy sendNumber answered misallocated usable tooFewPlaces symbolPlaces placeBits symbolPlacesOf numberAt sumBelow allBelow anyBelow kb m t z offset rows columns tableSize table entry
+    headerRight rises sizesRight offsetDue offsetsRight endsRight shiftRight tableRight wellFormed filled filledBetween firstColumn nextDue nextColumn staircase staircases ceil blockBits kmax blocks
 sendings-answered = refl
 
 -- ---- and receiving
@@ -236,7 +234,7 @@ accepted {r} {buf'} v =
     let s = sent-so toy (0x01 ∷ []) toyTerms 128 (replicate 128 0) in
     let o : List ℕ = whenDone (sendNumber toy (0x01 ∷ []) toyTerms 128 128) (radioBits toy (blockBits 1) (transport (0x01 ∷ [])) toyTerms 128 ++ drop 128 (replicate 128 0)) (replicate 128 0) in
     let is : take 128 o ≡ unpacked p10Octets = sent-front s done-128 ∙ sent-128 in
-    let got = sent-returns (room-128 .direct) one-octet (lit≤ tt) s done-128
+    let got = sent-returns (room-128 .direct) one-octet (lit≤ tt) (lit≤ tt) s
     (subst (λ (l : List ℕ). Received toy 8 toyTerms l (0x55 ∷ 0xAA ∷ []) r buf') (sym is) v) in
     (got .0, got .1, got .3)
 
@@ -265,7 +263,8 @@ module _ (bits : List ℕ) (h : Roomy toy 1 toyTerms (length bits)) (none : some
       → {buf : List ℕ} {r : Written} {buf' : List ℕ} → 1 ≤ length buf → Received toy 8 toyTerms bits buf r buf' → r .number ≡ 14
   refused other fits v =
       unsent-exactly h (over-none-bits bits none) fits v .1
-      (λ block whole size out w out' s done e.
+      (λ block whole size out w out' room s e.
+      let done = sent-always block (subst (λ (n : ℕ). Roomy toy n toyTerms (length bits)) (sym size) h) room s .0 in
       let is : radioBits toy (blockBits (length block)) (transport block) toyTerms (length bits) ≡ bits = sym (sent-front s done) ∙ e in
       other block (block-gathered toy 1 toyTerms bits receivable block size is)
       (ap (λ (n : ℕ). radioBits toy (blockBits n) (transport block) toyTerms (length bits)) (sym size) ∙ is))

@@ -9,4 +9,5 @@ pub mod Rising
 pub mod Demand2
 pub mod Demand3
 pub mod Worked
+pub mod Fifteen
 pub mod Examples

@@ -1,11 +1,9 @@
 -- What a transport block is sent as follows the six steps of document 01, and no other bits do.
 use mathlib.Core.Path.{_≡_, refl, sym, ap, ap₂, _∙_, subst}
-use mathlib.Core.Bool.{true, false, not}
 use mathlib.Core.List.{List, _++_}
 use Prim.Native.Nat.{ℕ, zero, suc, _-_, _*_, _%_, _≤_, _<_}
 use native.Mathlib.Nat.{add-mul, suc-mul, zero-mul}
 use native.Mathlib.Omega.{arith}
-use borrow.Author.Tests.{not-false}
 use lib.ListN.{length, getD, take, drop, replicate, length-append, length-replicate, take-append-drop}
 use lib.Seq.{drop-at, take-all}
 use Rattle.bits.specs.Counts.{symbolPlacesOf, codedBitsOf}
@@ -13,11 +11,10 @@ use Rattle.bits.specs.Ranges.{sumBelow}
 use Rattle.bits.specs.Bits.{withFiller}
 use Rattle.bits.specs.declared.count.Terms.{Terms}
 use Rattle.bits.proofs.Lists.{length-part}
-use Rattle.bits.proofs.Ranges.{none-any}
 use Rattle.bits.proofs.Listed.{length-list}
 use Rattle.bits.proofs.Sums.{sum-mono}
 use Rattle.checksum.specs.Crc.{attached}
-use Rattle.profile.specs.Record.{kb, rows, columns, z, table}
+use Rattle.profile.specs.Record.{kb, m, rows, columns, z, table}
 use Rattle.profile.proofs.Shape.{columns-is}
 use Rattle.cutting.specs.Plan.{blockBits, blocks, ownBits, sizeIndex, places}
 use Rattle.cutting.specs.Promises.{planNumber}
@@ -26,18 +23,19 @@ use Rattle.cutting.specs.Cutting.{ownStart, own, systematic}
 use Rattle.cutting.proofs.Plans.{Cut, plan-passed, plan-cut}
 use Rattle.cutting.proofs.Transported.{length-transport, transport-bits}
 use Rattle.parity.specs.Matrix.{checks}
-use Rattle.parity.specs.Coded.{hasParity, coded}
+use Rattle.parity.specs.Coded.{coded}
 use Rattle.parity.proofs.Coded.{coded-length, coded-take, coded-bits, coded-checks, coded-unique}
 use Rattle.parity.proofs.Ready.{table-stairs}
+use Rattle.parity.proofs.Solve.{Solvable}
 use Rattle.matching.specs.Matching.{kept, matched}
-use Rattle.coding.specs.Blocks.{blockHasParity, codedBlock, someWithoutParity}
+use Rattle.coding.specs.Blocks.{codedBlock}
 use Rattle.coding.specs.Allocation.{symbolPlaces, share}
 use Rattle.coding.specs.Joining.{blockSent, joined, padded, radioBits}
 use Rattle.coding.proofs.Joining.{joined-part, joined-same, joined-cut}
 use Rattle.coding.proofs.RoundTrip.{sent-length, sent-bits}
 use Rattle.demands.specs.Steps.{blockCount, blockPlaces, blockIndex, blockShare, Word, Steps}
 
-module _ (R block : List ℕ) (terms : Terms) (g : ℕ) (taken : planNumber R (length block) ≡ 0) (parity : someWithoutParity R (blockBits (length block)) (transport block) ≡ false) where
+module _ (R block : List ℕ) (taken : planNumber R (length block) ≡ 0) where
   abbrev u : List ℕ
   u = transport block
 
@@ -83,11 +81,11 @@ module _ (R block : List ℕ) (terms : Terms) (g : ℕ) (taken : planNumber R (l
 
   -- ---- the coded block
 
-  sys : ℕ → List ℕ
-  sys r = withFiller (places R b) (own R b u r)
+  abbrev sys : ℕ → List ℕ
+  sys r = systematic R b u r
 
-  sys-size : (r : ℕ) → r < c → length (sys r) ≡ kb R * z R i
-  unfolding sys withFiller
+  pub sys-size : (r : ℕ) → r < c → length (sys r) ≡ kb R * z R i
+  unfolding systematic withFiller
   sys-size r l =
       let o = length (own R b u r) in
       length-append (own R b u r) (replicate (places R b - o) 2)
@@ -97,56 +95,14 @@ module _ (R block : List ℕ) (terms : Terms) (g : ℕ) (taken : planNumber R (l
   word r = codedBlock R b u r
 
   word-is : (r : ℕ) → word r ≡ coded (table R i) (rows R) (columns R) (z R i) (sys r)
-  unfolding codedBlock systematic sys
+  unfolding codedBlock
   word-is r = refl
 
-  parity-is : (r : ℕ) → blockHasParity R b u r ≡ hasParity (table R i) (rows R) (columns R) (z R i) (sys r)
-  unfolding blockHasParity systematic sys
-  parity-is r = refl
-
-  has-parity : (r : ℕ) → r < c → hasParity (table R i) (rows R) (columns R) (z R i) (sys r) ≡ true
-  unfolding someWithoutParity
-  has-parity r l =
-      sym (parity-is r) ∙ not-false (blockHasParity R b u r) (none-any c (λ k. not (blockHasParity R b u k)) parity r l)
-
-  -- ---- the radio bits
-
-  abbrev e : ℕ
-  e = blockShare R (length block) terms g
-
-  f : ℕ → List ℕ
-  f r = matched (word r) e
-
-  block-is : (r : ℕ) → blockSent R b u terms g r ≡ f r
-  unfolding f blockSent share codedBitsOf symbolPlaces symbolPlacesOf blockShare blockCount
-  block-is r = refl
-
-  f-size : (r : ℕ) → length (f r) ≡ e
-  unfolding f matched
-  f-size r = length-list e (λ k. getD (kept (word r)) (k % length (kept (word r))) 0)
-
-  f-joined : (n : ℕ) → length (joined n f) ≡ n * e
-  unfolding joined
-  f-joined zero = sym (zero-mul e)
-  f-joined (suc n) = length-append (joined n f) (f n) ∙ omega (arith, f-joined n, f-size n, suc-mul n e)
-
-  sent-is : radioBits R b u terms g ≡ joined c f ++ replicate (g - c * e) 0
-  unfolding radioBits padded
-  sent-is =
-      let front : joined c (blockSent R b u terms g) ≡ joined c f = joined-same (blockSent R b u terms g) f c (λ r l. block-is r) in
-      ap (λ (l : List ℕ). l ++ replicate (g - length l) 0) front ∙ ap (λ (n : ℕ). joined c f ++ replicate (g - n) 0) (f-joined c)
-
-  block-stretch : (r : ℕ) → r < c → take e (drop (r * e) (radioBits R b u terms g)) ≡ f r
-  block-stretch r l =
-      let part = joined-part f c r (replicate (g - c * e) 0) l in
-      ap (λ (s : List ℕ). take e (drop (r * e) s)) sent-is
-      ∙ ap₂ (λ (x y : ℕ). take x (drop y (joined c f ++ replicate (g - c * e) 0))) (sym (f-size r)) (sym (f-joined r)) ∙ part
-
-  zeros-last : drop (c * e) (radioBits R b u terms g) ≡ replicate (g - c * e) 0
-  zeros-last = ap (drop (c * e)) sent-is ∙ drop-at (joined c f) (replicate (g - c * e) 0) (c * e) (f-joined c)
+  pub stairs : Solvable (table R i) (kb R) (m R) (rows R) (columns R)
+  stairs = table-stairs R (plan-passed R (length block) taken .0) i (cut .size)
 
   word-coded : (r : ℕ) → r < c → Word R (length block) (own R b u r) (word r)
-  unfolding blockPlaces blockIndex sys withFiller
+  unfolding blockPlaces blockIndex systematic withFiller
   word-coded r l =
       record {
         systematic = ap (take (places R b)) (word-is r)
@@ -158,54 +114,90 @@ module _ (R block : List ℕ) (terms : Terms) (g : ℕ) (taken : planNumber R (l
             subst (λ (w : List ℕ). getD w p 0 < 2) (sym (word-is r))
             (coded-bits (table R i) (rows R) (columns R) (z R i) (sys r) (kb R) (sys-size r l) p (omega (arith, cut .product)));
         checked = ap (checks (table R i) (rows R) (columns R) (z R i)) (word-is r)
-            ∙ coded-checks (table R i) (rows R) (columns R) (z R i) (sys r) (has-parity r l);
+            ∙ coded-checks (table R i) (rows R) (columns R) (z R i) (sys r) (kb R) (sys-size r l) stairs;
       }
-
-  pub steps : Steps R block terms g (radioBits R b u terms g)
-  unfolding blockCount blockBits transport attached mine ownStart f
-  steps =
-      record {
-        transport = transport block;
-        appended = refl;
-        transported = size;
-        carried = own-size;
-        together = own-together;
-        word = word;
-        coded = word-coded;
-        stretch = block-stretch;
-        rest = zeros-last;
-        long = sent-length R b u terms g;
-        single = sent-bits R b u terms g (transport-bits block);
-      }
-
-  -- ---- no other bits do
 
   -- a word of the own bits is the coded block
   word-only : (r : ℕ) (w : List ℕ) → r < c → Word R (length block) (own R b u r) w → w ≡ word r
-  unfolding blockPlaces blockIndex sys withFiller
+  unfolding blockPlaces blockIndex systematic withFiller
   word-only r w l h =
       let front : take (kb R * z R i) w ≡ sys r =
       ap (λ (n : ℕ). take n w) (sym (cut .product)) ∙ h .systematic in
-      coded-unique (table R i) (rows R) (columns R) (z R i) (sys r) (kb R) (sys-size r l)
-      (table-stairs R (plan-passed R (length block) taken .0) i (cut .size)) w
-      (h .long ∙ omega (arith, cut .product, ap (λ (n : ℕ). n * z R i) (columns-is R), add-mul (kb R) (rows R) (z R i))) front (λ p k. h .parity p (omega (arith, cut .product))) (h .checked) .1
+      coded-unique (table R i) (rows R) (columns R) (z R i) (sys r) (kb R) (sys-size r l) stairs w
+      (h .long ∙ omega (arith, cut .product, ap (λ (n : ℕ). n * z R i) (columns-is R), add-mul (kb R) (rows R) (z R i))) front (λ p k. h .parity p (omega (arith, cut .product))) (h .checked)
       ∙ sym (word-is r)
 
-  shares : (n : ℕ) → sumBelow n (λ (r : ℕ). e) ≡ n * e
-  unfolding sumBelow
-  shares zero = sym (zero-mul e)
-  shares (suc n) = omega (arith, shares n, suc-mul n e)
+  -- ---- the radio bits
 
-  pub steps-only : (bits : List ℕ) → Steps R block terms g bits → bits ≡ radioBits R b u terms g
-  unfolding blockCount transport attached f
-  steps-only bits s =
-      let own-word : (r : ℕ) → r < c → s .word r ≡ word r =
-      λ r l. word-only r (s .word r) l (subst (λ (v : List ℕ). Word R (length block) (own R b v r) (s .word r)) (s .appended) (s .coded r l)) in
-      let each : (r : ℕ) → r < c → take e (drop (sumBelow r (λ (k : ℕ). e)) bits) ≡ f r =
-      λ r l. ap (λ (n : ℕ). take e (drop n bits)) (shares r) ∙ s .stretch r l ∙ ap (λ (w : List ℕ). matched w e) (own-word r l) in
-      sym (take-append-drop (c * e) bits)
-      ∙ ap₂ (λ (x y : List ℕ). x ++ y)
-      (ap (λ (n : ℕ). take n bits) (sym (shares c)) ∙ sym (joined-cut (λ (r : ℕ). e) bits c)
-      ∙ joined-same (λ r. take e (drop (sumBelow r (λ (k : ℕ). e)) bits)) f c each)
-      (s .rest)
-      ∙ sym sent-is
+  module _ (terms : Terms) (g : ℕ) where
+    abbrev e : ℕ
+    e = blockShare R (length block) terms g
+
+    f : ℕ → List ℕ
+    f r = matched (word r) e
+
+    block-is : (r : ℕ) → blockSent R b u terms g r ≡ f r
+    unfolding f blockSent share codedBitsOf symbolPlaces symbolPlacesOf blockShare blockCount
+    block-is r = refl
+
+    f-size : (r : ℕ) → length (f r) ≡ e
+    unfolding f matched
+    f-size r = length-list e (λ k. getD (kept (word r)) (k % length (kept (word r))) 0)
+
+    f-joined : (n : ℕ) → length (joined n f) ≡ n * e
+    unfolding joined
+    f-joined zero = sym (zero-mul e)
+    f-joined (suc n) = length-append (joined n f) (f n) ∙ omega (arith, f-joined n, f-size n, suc-mul n e)
+
+    sent-is : radioBits R b u terms g ≡ joined c f ++ replicate (g - c * e) 0
+    unfolding radioBits padded
+    sent-is =
+        let front : joined c (blockSent R b u terms g) ≡ joined c f = joined-same (blockSent R b u terms g) f c (λ r l. block-is r) in
+        ap (λ (l : List ℕ). l ++ replicate (g - length l) 0) front ∙ ap (λ (n : ℕ). joined c f ++ replicate (g - n) 0) (f-joined c)
+
+    block-stretch : (r : ℕ) → r < c → take e (drop (r * e) (radioBits R b u terms g)) ≡ f r
+    block-stretch r l =
+        let part = joined-part f c r (replicate (g - c * e) 0) l in
+        ap (λ (s : List ℕ). take e (drop (r * e) s)) sent-is
+        ∙ ap₂ (λ (x y : ℕ). take x (drop y (joined c f ++ replicate (g - c * e) 0))) (sym (f-size r)) (sym (f-joined r)) ∙ part
+
+    zeros-last : drop (c * e) (radioBits R b u terms g) ≡ replicate (g - c * e) 0
+    zeros-last = ap (drop (c * e)) sent-is ∙ drop-at (joined c f) (replicate (g - c * e) 0) (c * e) (f-joined c)
+
+    pub steps : Steps R block terms g (radioBits R b u terms g)
+    unfolding blockCount blockBits transport attached mine ownStart f
+    steps =
+        record {
+          transport = transport block;
+          appended = refl;
+          transported = size;
+          carried = own-size;
+          together = own-together;
+          word = word;
+          coded = word-coded;
+          stretch = block-stretch;
+          rest = zeros-last;
+          long = sent-length R b u terms g;
+          single = sent-bits R b u terms g (transport-bits block);
+        }
+
+    -- ---- no other bits do
+
+    shares : (n : ℕ) → sumBelow n (λ (r : ℕ). e) ≡ n * e
+    unfolding sumBelow
+    shares zero = sym (zero-mul e)
+    shares (suc n) = omega (arith, shares n, suc-mul n e)
+
+    pub steps-only : (bits : List ℕ) → Steps R block terms g bits → bits ≡ radioBits R b u terms g
+    unfolding blockCount transport attached f
+    steps-only bits s =
+        let own-word : (r : ℕ) → r < c → s .word r ≡ word r =
+        λ r l. word-only r (s .word r) l (subst (λ (v : List ℕ). Word R (length block) (own R b v r) (s .word r)) (s .appended) (s .coded r l)) in
+        let each : (r : ℕ) → r < c → take e (drop (sumBelow r (λ (k : ℕ). e)) bits) ≡ f r =
+        λ r l. ap (λ (n : ℕ). take e (drop n bits)) (shares r) ∙ s .stretch r l ∙ ap (λ (w : List ℕ). matched w e) (own-word r l) in
+        sym (take-append-drop (c * e) bits)
+        ∙ ap₂ (λ (x y : List ℕ). x ++ y)
+        (ap (λ (n : ℕ). take n bits) (sym (shares c)) ∙ sym (joined-cut (λ (r : ℕ). e) bits c)
+        ∙ joined-same (λ r. take e (drop (sumBelow r (λ (k : ℕ). e)) bits)) f c each)
+        (s .rest)
+        ∙ sym sent-is

@@ -12,7 +12,7 @@ use Rattle.cutting.specs.Plan.{blockBits, kmax, blocks, ownBits, sizeIndexFor, 
 use Rattle.cutting.specs.Transport.{transport}
 use Rattle.cutting.specs.Cutting.{ownStart, own, systematic}
 use Rattle.parity.specs.Matrix.{square, spread, bitAt, rowEven, checks}
-use Rattle.parity.specs.Coded.{withParity, checksWith, hasParity, coded}
+use Rattle.parity.specs.Coded.{withParity, checksWith, coded}
 use Rattle.matching.specs.Matching.{kept, matched}
 use Rattle.coding.specs.Blocks.{codedBlock}
 use Rattle.coding.specs.Allocation.{symbolPlaces, share}
@@ -22,7 +22,7 @@ use Rattle.demands.specs.Worked.{toy, p10Octets, toyWord, toySent, cases
 pub worked : map computed cases ≡ map due cases
 unfolding cases toy p10Octets toyWord toySent digits readOn valueOf unpacked numberAt ceil placeBits symbolPlacesOf codedBitsOf sumBelow parityBelow allBelow anyBelow
     firstBelow reduce divideOn remainder checksum attached kb m t z offset rows columns tableSize table entry blockBits kmax blocks ownBits sizeIndexFor sizeIndex places
-    filler square spread bitAt rowEven checks withParity checksWith hasParity coded transport ownStart own withFiller systematic codedBlock symbolPlaces share kept
+    filler square spread bitAt rowEven checks withParity checksWith coded transport ownStart own withFiller systematic codedBlock symbolPlaces share kept
     listBelow matched blockSent joined padded radioBits
 worked = refl
 

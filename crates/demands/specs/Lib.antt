@@ -2,3 +2,4 @@ pub mod Numbers
 pub mod Outputs
 pub mod Steps
 pub mod Worked
+pub mod Fifteen

@@ -1,6 +1,5 @@
 -- The cases marked P of document 01, "Small profile and worked numbers", and the one after P10, in one table: what the definitions compute, and what
 -- is due.
-use mathlib.Core.Bool.{cond}
 use mathlib.Core.List.{List, [], _∷_, _++_}
 use Prim.Native.Nat.{ℕ}
 use Rattle.bits.specs.Bits.{unpacked}
@@ -9,7 +8,7 @@ use Rattle.checksum.specs.Crc.{checksum, gen24A, gen16, gen8}
 use Rattle.profile.specs.Record.{z, rows, columns, table}
 use Rattle.cutting.specs.Plan.{blockBits, blocks}
 use Rattle.cutting.specs.Transport.{transport}
-use Rattle.parity.specs.Coded.{hasParity, coded}
+use Rattle.parity.specs.Coded.{coded}
 use Rattle.coding.specs.Allocation.{share}
 use Rattle.coding.specs.Joining.{radioBits}
 
@@ -24,9 +23,9 @@ unfoldable pub p10Octets : List ℕ
 p10Octets =
     0x00 ∷ 0x00 ∷ 0x00 ∷ 0x7B ∷ 0xB7 ∷ 0x00 ∷ 0x7B ∷ 0xB7 ∷ 0x7B ∷ 0x00 ∷ 0xCC ∷ 0x00 ∷ 0xCC ∷ 0xCC ∷ 0xB7 ∷ 0xCC ∷ []
 
--- a toy code word: the places with the parity bits that the toy record gives them, or nothing where it gives none
+-- a toy code word: the places with the parity bits that the toy record gives them
 unfoldable pub toyWord : List ℕ → List ℕ
-toyWord places = cond (hasParity (table toy 0) (rows toy) (columns toy) (z toy 0) places) (coded (table toy 0) (rows toy) (columns toy) (z toy 0) places) []
+toyWord places = coded (table toy 0) (rows toy) (columns toy) (z toy 0) places
 
 -- "N_L 1, Q_m 2"
 abbrev pub toyTerms : Terms

@@ -10,15 +10,15 @@ use borrow.Author.Tests.{eqb-true, lt-ltb, le-ltb, ltb-false, not-false}
 use Rattle.bits.specs.Bits.{someOver}
 use Rattle.bits.specs.Numbers.{answered}
 use Rattle.bits.specs.Ranges.{anyBelow, firstBelow}
-use Rattle.bits.proofs.Answers.{applies, passes, passed, first-part, Refusals, last-part, none-left, when-done, when-refused}
+use Rattle.bits.proofs.Answers.{passed, when-done, when-refused}
 use Rattle.bits.proofs.Ranges.{equal-or, first-some, first-none}
 use Rattle.profile.specs.Record.{kb, t, z, rows, columns}
 use Rattle.profile.specs.Promises.{judgeConditions, judged}
 use Rattle.profile.proofs.Answers.{judged-first, judged-passed}
 use Rattle.parity.specs.Matrix.{checks}
-use Rattle.parity.specs.Coded.{hasParity, coded}
-use Rattle.parity.specs.Promises.{hasSize, tableFor, unfit, blockConditions, codeNumber, BlockCoded, checkNumber, WordChecked}
-use Rattle.parity.specs.steps.Gate.{blockNumber}
+use Rattle.parity.specs.Coded.{coded}
+use Rattle.parity.specs.Promises.{hasSize, tableFor, unfit, codeNumber, BlockCoded, checkNumber, WordChecked}
+use Rattle.parity.specs.steps.Gate.{Taken}
 
 -- ---- the sizes of a record
 
@@ -65,7 +65,7 @@ done-first : (R : List ℕ) (rest : List (ℕ × Bool)) → answered (judgeCondi
 done-first R rest e =
     equal-or (judged R) 0 (λ q. (q, sym (judged-passed R rest q) ∙ e)) (λ n. absurd (n (sym (judged-first R rest n) ∙ e)))
 
--- ---- the numbers before coding
+-- ---- coding a block
 
 module _ (R : List ℕ) (z' : ℕ) (places : List ℕ) (room : ℕ) where
   abbrev others : List (ℕ × Bool)
@@ -73,8 +73,8 @@ module _ (R : List ℕ) (z' : ℕ) (places : List ℕ) (room : ℕ) where
 
   -- what the code answers, by what it found: j the profile's number, k and c its kb and columns, u and o the tests of 8 and 12
   module _ (j : ℕ) (found : j ≡ judged R) where
-    pub block-judged : (j ≡ 0 → ⊥) → j ≡ blockNumber R z' places room
-    unfolding blockNumber
+    pub block-judged : (j ≡ 0 → ⊥) → j ≡ codeNumber R z' places room
+    unfolding codeNumber
     block-judged h = found ∙ sym (judged-first R others (λ q. h (found ∙ q)))
 
     module _ (done : j ≡ 0) (k c : ℕ) (k-is : k ≡ kb R) (c-is : c ≡ columns R) (u : Bool) (fit : u ≡ unfit R z' k places) where
@@ -84,92 +84,49 @@ module _ (R : List ℕ) (z' : ℕ) (places : List ℕ) (room : ℕ) where
       long-is : c * z' ≡ columns R * z'
       long-is = ap (λ (x : ℕ). x * z') c-is
 
-      pub block-8 : u ≡ true → 8 ≡ blockNumber R z' places room
-      unfolding blockNumber answered
+      pub block-8 : u ≡ true → 8 ≡ codeNumber R z' places room
+      unfolding codeNumber answered
       block-8 e = sym (judged-passed R others (sym found ∙ done) ∙ rw (fit-is e))
 
-      pub block-11 : u ≡ false → room < c * z' → 11 ≡ blockNumber R z' places room
-      unfolding blockNumber answered
+      pub block-11 : u ≡ false → room < c * z' → 11 ≡ codeNumber R z' places room
+      unfolding codeNumber answered
       block-11 e l =
           sym (judged-passed R others (sym found ∙ done) ∙ rw (fit-is e, lt-ltb room (columns R * z') (omega (arith, long-is))))
 
       module _ (e : u ≡ false) (l : c * z' ≤ room) (o : Bool) (over : o ≡ someOver 2 places) where
-        pub block-12 : o ≡ true → 12 ≡ blockNumber R z' places room
-        unfolding blockNumber answered
+        pub block-12 : o ≡ true → 12 ≡ codeNumber R z' places room
+        unfolding codeNumber answered
         block-12 q =
             sym (judged-passed R others (sym found ∙ done)
             ∙ rw (fit-is e, le-ltb room (columns R * z') (omega (arith, long-is)), sym over ∙ q))
 
-        pub block-0 : o ≡ false → 0 ≡ blockNumber R z' places room
-        unfolding blockNumber answered
+        pub block-0 : o ≡ false → 0 ≡ codeNumber R z' places room
+        unfolding codeNumber answered
         block-0 q =
             sym (judged-passed R others (sym found ∙ done)
             ∙ rw (fit-is e, le-ltb room (columns R * z') (omega (arith, long-is)), sym over ∙ q))
 
-  pub record Taken : Type 0 where
-    pub judged : judged R ≡ 0
-    pub size : hasSize R z' ≡ true
-    pub long : length places ≡ kb R * z'
-    pub enough : columns R * z' ≤ room
-
-  pub block-taken : blockNumber R z' places room ≡ 0 → Taken
-  unfolding blockNumber
+  pub block-taken : codeNumber R z' places room ≡ 0 → Taken R z' places × (columns R * z' ≤ room)
+  unfolding codeNumber
   block-taken e =
       let first = done-first R others e in
       let eight = passed 8 _ (unfit R z' (kb R) places) (lit< tt) (first .1) in
       let eleven = passed 11 _ (ltb room (columns R * z')) (lit< tt) (eight .1) in
       let fit = fits R z' (kb R) places (eight .0) in
-      record { judged = first .0; size = fit .0; long = fit .1; enough = ltb-false room (columns R * z') (eleven .0) }
-
-  -- and 15 behind them
-  abbrev fifteen : List (ℕ × Bool)
-  fifteen = (15, not (hasParity (tableFor R z') (rows R) (columns R) z' places)) ∷ []
-
-  number-refused : (blockNumber R z' places room ≡ 0 → ⊥) → codeNumber R z' places room ≡ blockNumber R z' places room
-  unfolding codeNumber blockNumber
-  number-refused n = first-part (blockConditions R z' places room) fifteen n
-
-  module _ (e : blockNumber R z' places room ≡ 0) where
-    number-last : codeNumber R z' places room ≡ answered fifteen
-    unfolding codeNumber blockNumber Refusals
-    number-last = last-part (blockConditions R z' places room) fifteen tt e
-
-    number-done : hasParity (tableFor R z') (rows R) (columns R) z' places ≡ true → codeNumber R z' places room ≡ 0
-    number-done h = number-last ∙ passes 15 [] (ap not h) ∙ none-left
-
-    number-none : hasParity (tableFor R z') (rows R) (columns R) z' places ≡ false → codeNumber R z' places room ≡ 15
-    number-none h = number-last ∙ applies 15 [] (ap not h)
+      (record { judged = first .0; size = fit .0; long = fit .1 }, ltb-false room (columns R * z') (eleven .0))
 
 module _ (R : List ℕ) (z' : ℕ) (places out : List ℕ) where
-  abbrev block : ℕ
-  block = blockNumber R z' places (length out)
-
-  refused-with : (n : ℕ) → codeNumber R z' places (length out) ≡ n → (n ≡ 0 → ⊥) → BlockCoded R z' places out (record { number = n; count = 0 }) out
-  refused-with n e h =
-      record {
-        number = sym e;
-        count = rw e (sym (when-refused n (columns R * z') 0 h));
-        output = rw e (sym (when-refused n _ out h));
-      }
-
-  pub coded-refused : (n : ℕ) → n ≡ block → (n ≡ 0 → ⊥) → BlockCoded R z' places out (record { number = n; count = 0 }) out
+  pub coded-refused : (n : ℕ) → n ≡ codeNumber R z' places (length out) → (n ≡ 0 → ⊥) → BlockCoded R z' places out (record { number = n; count = 0 }) out
   coded-refused n e h =
-      refused-with n (number-refused R z' places (length out) (λ q. h (e ∙ q)) ∙ sym e) h
+      let refused : codeNumber R z' places (length out) ≡ 0 → ⊥ = λ q. h (e ∙ q) in
+      record { number = e; count = sym (when-refused _ (columns R * z') 0 refused); output = sym (when-refused _ _ out refused) }
 
-  module _ (e : block ≡ 0) where
-    pub coded-none : hasParity (tableFor R z') (rows R) (columns R) z' places ≡ false → BlockCoded R z' places out (record { number = 15; count = 0 }) out
-    coded-none h = refused-with 15 (number-none R z' places (length out) e h) (λ q. omega arith)
-
-    pub coded-done : hasParity (tableFor R z') (rows R) (columns R) z' places ≡ true → (n : ℕ) → n ≡ columns R * z' → (out' : List ℕ)
-        → out' ≡ coded (tableFor R z') (rows R) (columns R) z' places ++ drop (columns R * z') out
-        → BlockCoded R z' places out (record { number = 0; count = n }) out'
-    coded-done h n p out' q =
-        let c : codeNumber R z' places (length out) ≡ 0 = number-done R z' places (length out) e h in
-        record {
-          number = sym c;
-          count = rw c (p ∙ sym (when-done 0 (columns R * z') 0 refl));
-          output = rw c (q ∙ sym (when-done 0 _ out refl));
-        }
+  pub coded-done : (n : ℕ) → n ≡ codeNumber R z' places (length out) → n ≡ 0 → (count : ℕ) → count ≡ columns R * z' → (out' : List ℕ)
+      → out' ≡ coded (tableFor R z') (rows R) (columns R) z' places ++ drop (columns R * z') out
+      → BlockCoded R z' places out (record { number = n; count = count }) out'
+  coded-done n e h count p out' q =
+      let done : codeNumber R z' places (length out) ≡ 0 = sym e ∙ h in
+      record { number = e; count = p ∙ sym (when-done _ (columns R * z') 0 done); output = q ∙ sym (when-done _ _ out done) }
 
 -- ---- checking a word
 

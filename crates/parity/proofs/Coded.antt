@@ -1,7 +1,7 @@
--- The coded block: what its definition, a search over all choices of parity bits, gives, and that the quick way gives it wherever there
--- is one.
-use mathlib.Core.Path.{_≡_, refl, sym, ap, ap₂, _∙_, subst}
-use mathlib.Core.Bool.{Bool, true, false}
+-- The coded block: there are parity bits with which the places check, what the definition, a search over all choices of them, gives, and that the quick
+-- way gives it.
+use mathlib.Core.Path.{_≡_, sym, ap, ap₂, _∙_, subst}
+use mathlib.Core.Bool.{true}
 use mathlib.Core.List.{List, _++_}
 use Prim.Native.Nat.{ℕ, _+_, _-_, _*_, _^_, _≤_, _<_}
 use native.Mathlib.Nat.{add-mul}
@@ -15,17 +15,14 @@ use Rattle.bits.proofs.Ranges.{any-of, first-some}
 use Rattle.parity.specs.Matrix.{checks}
 use Rattle.parity.specs.Coded.{withParity, checksWith, hasParity, coded}
 use Rattle.parity.specs.steps.Grouped.{Solution}
-use Rattle.parity.proofs.Solve.{Solvable, checked-solved}
+use Rattle.parity.proofs.Solve.{Solvable, checked-solved, solved-checked}
 use Rattle.parity.proofs.Unique.{solution-unique}
+use Rattle.parity.proofs.Solutions.{some-solution}
 
 module _ (T : List ℕ) (rows columns z : ℕ) (sys : List ℕ) where
   -- the choice that is made
   abbrev choice : ℕ
   choice = firstBelow (2 ^ (rows * z)) (checksWith T rows columns z sys)
-
-  pub coded-checks : hasParity T rows columns z sys ≡ true → checks T rows columns z (coded T rows columns z sys) ≡ true
-  unfolding hasParity coded checksWith
-  coded-checks e = first-some (2 ^ (rows * z)) (checksWith T rows columns z sys) e .holds
 
   module _ (kb : ℕ) (size : length sys ≡ kb * z) where
     -- ---- a block with any choice of parity bits
@@ -82,17 +79,7 @@ module _ (T : List ℕ) (rows columns z : ℕ) (sys : List ℕ) where
           ∙ take-append-drop (kb * z) w
 
     module _ {m : ℕ} (S : Solvable T kb m rows columns) where
-      coded-solution : hasParity T rows columns z sys ≡ true → Solution T kb m columns z sys (coded T rows columns z sys)
-      unfolding coded
-      coded-solution e =
-          record {
-            size = coded-length (S .wide);
-            front = with-front choice;
-            bits = coded-bits;
-            solved = checked-solved T kb m rows columns z (coded T rows columns z sys) S (coded-checks e);
-          }
-
-      -- a word that solves the staircase from the places: it is the coded block where it checks, and where it does not there is none
+      -- a word that solves the staircase from the places is the block with one of the choices, and that choice checks
       module _ (w : List ℕ) (h : Solution T kb m columns z sys w) where
         long-word : length w ≡ (kb + rows) * z
         long-word = h .size ∙ ap (λ (n : ℕ). n * z) (S .wide)
@@ -102,39 +89,48 @@ module _ (T : List ℕ) (rows columns z : ℕ) (sys : List ℕ) where
             let l : length (take (kb * z) w) ≡ kb * z = length-take-le (kb * z) w (omega (arith, long-word, add-mul kb rows z)) in
             ext-getD 0 (take (kb * z) w) sys (l ∙ sym size) (λ p o. getD-take (kb * z) w p 0 (omega arith) ∙ h .front p (omega arith))
 
-        pub solved-has : checks T rows columns z w ≡ true → hasParity T rows columns z sys ≡ true
+        solution-has : hasParity T rows columns z sys ≡ true
         unfolding hasParity checksWith
-        solved-has e =
+        solution-has =
             any-of (2 ^ (rows * z)) (checksWith T rows columns z sys) (valueOf (drop (kb * z) w)) (choice-lt w long-word front-taken (h .bits))
-            (ap (checks T rows columns z) (choice-is w long-word front-taken (h .bits)) ∙ e)
+            (ap (checks T rows columns z) (choice-is w long-word front-taken (h .bits)) ∙ solved-checked T kb m rows columns z w S (h .solved))
 
-        pub solved-coded : hasParity T rows columns z sys ≡ true → w ≡ coded T rows columns z sys
-        solved-coded e =
-            let wide : columns ≡ kb + m = omega (arith, S .wide, S .tall) in
-            solution-unique T kb m columns z wide sys w (coded T rows columns z sys) h (coded-solution e)
+      abbrev within : columns ≡ kb + m
+      within = omega (arith, S .wide, S .tall)
 
-        -- so its check answers whether there are parity bits
-        pub solved-checks : checks T rows columns z w ≡ hasParity T rows columns z sys
-        solved-checks = by-values (checks T rows columns z w) (hasParity T rows columns z sys) refl refl
-          where
-            by-values : (a b : Bool) → checks T rows columns z w ≡ a → hasParity T rows columns z sys ≡ b → a ≡ b
-            by-values true b p q = sym (solved-has p) ∙ q
-            by-values false true p q = sym p ∙ ap (checks T rows columns z) (solved-coded q) ∙ coded-checks q
-            by-values false false p q = refl
+      -- existence: there are parity bits with which the places check
+      pub has-parity : hasParity T rows columns z sys ≡ true
+      has-parity = solution-has _ (some-solution T kb m columns z sys size (omega (arith, S .stairs .before)) within)
+
+      pub coded-checks : checks T rows columns z (coded T rows columns z sys) ≡ true
+      unfolding hasParity coded checksWith
+      coded-checks = first-some (2 ^ (rows * z)) (checksWith T rows columns z sys) has-parity .holds
+
+      coded-solution : Solution T kb m columns z sys (coded T rows columns z sys)
+      unfolding coded
+      coded-solution =
+          record {
+            size = coded-length (S .wide);
+            front = with-front choice;
+            bits = coded-bits;
+            solved = checked-solved T kb m rows columns z (coded T rows columns z sys) S coded-checks;
+          }
+
+      -- a word that solves the staircase from the places is the coded block
+      pub solved-coded : (w : List ℕ) → Solution T kb m columns z sys w → w ≡ coded T rows columns z sys
+      solved-coded w h = solution-unique T kb m columns z within sys w (coded T rows columns z sys) h coded-solution
 
       -- uniqueness: a word that has the places in front, then bits, and checks is the coded block
       pub coded-unique : (w : List ℕ) → length w ≡ columns * z → take (kb * z) w ≡ sys
-          → ((p : ℕ) → kb * z ≤ p → getD w p 0 < 2) → checks T rows columns z w ≡ true
-          → (hasParity T rows columns z sys ≡ true) × (w ≡ coded T rows columns z sys)
+          → ((p : ℕ) → kb * z ≤ p → getD w p 0 < 2) → checks T rows columns z w ≡ true → w ≡ coded T rows columns z sys
       coded-unique w long front bits e =
-          let h : Solution T kb m columns z sys w = record {
+          solved-coded w
+          (record {
             size = long;
             front = λ p l. sym (getD-take (kb * z) w p 0 l) ∙ ap (λ (s : List ℕ). getD s p 0) front;
             bits = bits;
             solved = checked-solved T kb m rows columns z w S e;
-          } in
-          let has = solved-has w h e in
-          (has, solved-coded w h has)
+          })
 
 -- a word that was solved behind the places
 pub solution-places : {T : List ℕ} {kb m columns z : ℕ} {sys u w : List ℕ} → length sys ≡ kb * z → (rest : List ℕ) → u ≡ sys ++ rest

@@ -6,14 +6,14 @@ use native.Mathlib.Nat.{zero-add, add-zero, zero-mul, suc-mul, add-mul, le-antis
 use native.Mathlib.Numerals.{add-one}
 use native.Mathlib.Omega.{arith}
 use lib.Arith.{digits-lt}
-use lib.ListN.{length, getD, List·getD-eq-default}
+use lib.ListN.{length, getD}
 use Rattle.bits.specs.Ranges.{sumBelow}
-use Rattle.bits.proofs.Ranges.{last-or, below-or}
-use Rattle.parity.specs.steps.Grouped.{lowBit, stack, Solved, Solution}
+use Rattle.bits.proofs.Ranges.{last-or}
+use Rattle.parity.specs.steps.Grouped.{lowBit, stack, Solution}
 use Rattle.parity.specs.steps.Runs.{Run, copied, added, Sums, down, allRows, rowsAbove, Groups, Together}
-use Rattle.parity.proofs.Rows.{stack-same}
+use Rattle.parity.proofs.Rows.{same-bit}
 use Rattle.parity.proofs.Runs.{run-bits}
-use Rattle.parity.proofs.Unique.{place}
+use Rattle.parity.proofs.Solutions.{sums-solution}
 
 -- ---- the rows of s together, in a group
 
@@ -77,11 +77,11 @@ module _ (s : List ℕ) (z : ℕ) (a : List ℕ) (at : ℕ) where
   unfolding allRows
   laid-first {m} {g} {b} h r = groups-one z _ a at (copied g 0) b r (together-copied s z m g h)
 
-  pub laid-more : {n row : ℕ} {g b c : List ℕ} → row ≡ n * z → Together s z (n + 1) g → Groups z n (rowsAbove s z) a at b
-      → Run z (copied g 0) b (at + row) c → Groups z (n + 1) (rowsAbove s z) a at c
+  pub laid-more : {n to : ℕ} {g b c : List ℕ} → Together s z (n + 1) g → Groups z n (rowsAbove s z) a at b
+      → Run z (copied g 0) b to c → to ≡ at + n * z → Groups z (n + 1) (rowsAbove s z) a at c
   unfolding rowsAbove
-  laid-more {n} {row} {g} {b} {c} e h groups r =
-      groups-more z _ a at n (copied g 0) b c groups (subst (λ (x : ℕ). Run z (copied g 0) b (at + x) c) e r)
+  laid-more {n} {to} {g} {b} {c} h groups r e =
+      groups-more z _ a at n (copied g 0) b c groups (subst (λ (x : ℕ). Run z (copied g 0) b x c) e r)
       (together-copied s z (suc n) g (subst (λ (x : ℕ). Together s z x g) (add-one n) h))
 
 -- ---- what the sums of the rows come to, together
@@ -93,14 +93,6 @@ down-stack T rows columns z w n s sums zero l u low = refl
 down-stack T rows columns z w n s sums (suc r) l u low =
     omega (arith, down-stack T rows columns z w n s sums r (omega arith) u low, sums .left r u (omega arith) l low)
 
-same-bit : (v w : List ℕ) (p : ℕ) → getD v p 0 ≡ getD w p 0 → lowBit v p ≡ lowBit w p
-unfolding lowBit
-same-bit v w p e = ap (λ (x : ℕ). x % 2) e
-
-bit-mod : (v : List ℕ) (p x : ℕ) → getD v p 0 ≡ x % 2 → lowBit v p ≡ x % 2
-unfolding lowBit
-bit-mod v p x e = omega arith
-
 -- the word after its first parity column is laid: the same in the columns that were added
 pub first-same : (kb z : ℕ) (f : ℕ → ℕ → ℕ) (a b : List ℕ) → Groups z 1 f a (kb * z) b → (p : ℕ) → p < kb * z → lowBit a p ≡ lowBit b p
 first-same kb z f a b g p l = same-bit a b p (sym (g .below p l))
@@ -110,57 +102,31 @@ pub steps-in : (kb m z : ℕ) → 0 < m → (kb + 1) * z + (m - 1) * z ≡ (kb +
 steps-in kb m z h = sym (add-mul (kb + 1) (m - 1) z) ∙ ap (λ (x : ℕ). x * z) {x = kb + 1 + (m - 1)} {y = kb + m} (omega arith)
 
 -- all parity columns laid
-module _ (T : List ℕ) (kb m columns z : ℕ) (a b c s s' : List ℕ) (some : 0 < z) (sums : Sums T m columns z a kb 0 s) (sums' : Sums T m columns z b (kb + 1) 0 s')
+module _ (T : List ℕ) (kb m columns z : ℕ) (a b c s s' : List ℕ) (sums : Sums T m columns z a kb 0 s) (sums' : Sums T m columns z b (kb + 1) 0 s')
     (one : Groups z 1 (allRows s z m) a (kb * z) b) (next : Groups z (m - 1) (rowsAbove s' z) b ((kb + 1) * z) c) where
   step : (kb + 1) * z ≡ kb * z + z
   step = ap (λ (x : ℕ). x * z) (add-one kb) ∙ suc-mul kb z
 
+  wider : (p : ℕ) → p < suc kb * z → getD c p 0 ≡ getD b p 0
+  wider p l = next .below p (omega (arith, step, suc-mul kb z))
+
   front : (p : ℕ) → p < kb * z → getD c p 0 ≡ getD a p 0
   front p l = next .below p (omega (arith, step)) ∙ one .below p l
 
-  first-at : (u : ℕ) → u < z → getD c (kb * z + u) 0 ≡ down s z m u % 2
+  first-at : (u : ℕ) → u < z → getD c (kb * z + u) 0 ≡ stack T columns z a kb m u % 2
   unfolding allRows
   first-at u low =
       next .below (kb * z + u) (omega (arith, step))
       ∙ ap (λ (x : ℕ). getD b (x + u) 0) (sym (ap (λ (x : ℕ). kb * z + x) (zero-mul z) ∙ add-zero (kb * z)))
-      ∙ one .inside 0 u (omega arith) low
+      ∙ one .inside 0 u (omega arith) low ∙ down-stack T m columns z a kb s sums m (omega arith) u low
 
-  next-at : (n u : ℕ) → suc n < m → u < z → getD c ((kb + suc n) * z + u) 0 ≡ down s' z (suc n) u % 2
+  next-at : (n u : ℕ) → suc n < m → u < z → getD c ((kb + suc n) * z + u) 0 ≡ stack T columns z b (suc kb) (suc n) u % 2
   unfolding rowsAbove
   next-at n u l low =
       let e : kb + suc n ≡ kb + 1 + n = omega arith in
       ap (λ (x : ℕ). getD c (x + u) 0) (ap (λ (x : ℕ). x * z) e ∙ add-mul (kb + 1) n z) ∙ next .inside n u (omega arith) low
-
-  pub laid-solved : Solved T kb m columns z c
-  laid-solved =
-      record {
-        first = λ u low.
-            bit-mod c (kb * z + u) _ (first-at u low ∙ down-stack T m columns z a kb s sums m (omega arith) u low)
-            ∙ ap (λ (x : ℕ). x % 2) (stack-same T columns z a c kb some (λ p l. same-bit a c p (sym (front p l))) m u);
-        next = λ n u p l low. later n u p l low;
-      }
-    where
-      later : (n u : ℕ) → 0 < n → n < m → u < z → lowBit c ((kb + n) * z + u) ≡ stack T columns z c (suc kb) n u % 2
-      later zero u p l low = absurd (omega arith)
-      later (suc n) u p l low =
-          bit-mod c ((kb + suc n) * z + u) _ (next-at n u l low ∙ down-stack T m columns z b (kb + 1) s' sums' (suc n) (omega arith) u low)
-          ∙ ap (λ (x : ℕ). x % 2)
-          (stack-same T columns z b c (kb + 1) some (λ p l. same-bit b c p (sym (next .below p l))) (suc n) u
-          ∙ ap (λ (x : ℕ). stack T columns z c x (suc n) u) (add-one kb))
-
-  parity : (n u : ℕ) → n < m → u < z → getD c ((kb + n) * z + u) 0 < 2
-  parity zero u l low = omega (arith, ap (λ (x : ℕ). getD c (x * z + u) 0) (add-zero kb), first-at u low)
-  parity (suc n) u l low = omega (arith, next-at n u l low)
+      ∙ down-stack T m columns z b (kb + 1) s' sums' (suc n) (omega arith) u low
+      ∙ ap (λ (x : ℕ). stack T columns z b x (suc n) u % 2) (add-one kb)
 
   pub laid-solution : columns ≡ kb + m → length a ≡ columns * z → Solution T kb m columns z a c
-  laid-solution wide e =
-      let size : length c ≡ columns * z = next .len ∙ one .len ∙ e in
-      let all : columns * z ≡ (kb + m) * z = ap (λ (n : ℕ). n * z) wide in
-      record {
-        size = size;
-        front = front;
-        bits = λ p h.
-            below-or p ((kb + m) * z) (λ l. place kb m z p h l (λ n u g low q. subst (λ (x : ℕ). getD c x 0 < 2) q (parity n u g low)))
-            (λ l. omega (arith, List·getD-eq-default c 0 {n = p} (omega arith)));
-        solved = laid-solved;
-      }
+  laid-solution wide e = sums-solution T kb m columns z a b c front wider first-at next-at wide (next .len ∙ one .len ∙ e)

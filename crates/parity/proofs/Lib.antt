@@ -2,6 +2,7 @@ pub mod Spread
 pub mod Rows
 pub mod Solve
 pub mod Unique
+pub mod Solutions
 pub mod Coded
 pub mod Runs
 pub mod Columns

@@ -1,12 +1,12 @@
 -- What a profile that is judged with 0 gives: tables of the right shape, which are staircases; and what coding by them comes to.
-use mathlib.Core.Path.{_≡_, ap, ap₂, sym, _∙_}
-use mathlib.Core.Bool.{Bool, true, false}
-use mathlib.Core.List.{List, _++_}
+use mathlib.Core.Path.{_≡_, ap, _∙_}
+use mathlib.Core.Bool.{Bool, true}
+use mathlib.Core.List.{List}
 use Prim.Native.Nat.{ℕ, _*_, _≤_, _<_}
 use native.Mathlib.Nat.{mul-le-mul}
 use native.Mathlib.Omega.{arith}
 use lib.Dec.{eqb}
-use lib.ListN.{length, drop}
+use lib.ListN.{length}
 use borrow.Author.Tests.{eqb-true}
 use Rattle.bits.specs.Ranges.{firstBelow}
 use Rattle.bits.proofs.Ranges.{first-some}
@@ -16,13 +16,12 @@ use Rattle.profile.proofs.Accepted.{accepted}
 use Rattle.profile.proofs.Shape.{rows-is, columns-is}
 use Rattle.profile.proofs.Stairs.{staircase-is}
 use Rattle.parity.specs.Matrix.{checks}
-use Rattle.parity.specs.Coded.{hasParity, coded}
-use Rattle.parity.specs.Promises.{hasSize, tableFor, BlockCoded}
-use Rattle.parity.specs.steps.Gate.{blockNumber}
-use Rattle.parity.specs.steps.Grouped.{Shape, Codable, Solution, Attempted}
-use Rattle.parity.proofs.Answers.{block-taken, coded-none, coded-done}
+use Rattle.parity.specs.Coded.{coded}
+use Rattle.parity.specs.Promises.{hasSize, tableFor}
+use Rattle.parity.specs.steps.Gate.{Taken}
+use Rattle.parity.specs.steps.Grouped.{Shape, Codable, Solution}
 use Rattle.parity.proofs.Solve.{Solvable}
-use Rattle.parity.proofs.Coded.{solved-checks, solved-coded}
+use Rattle.parity.proofs.Coded.{solved-coded}
 
 -- ---- each table of the profile
 
@@ -102,31 +101,9 @@ module _ (R : List ℕ) (z' : ℕ) (T : List ℕ) (n c : ℕ) (table-is : T ≡ 
   pub check-read : n ≡ rows R → (w : List ℕ) {r : Bool} → r ≡ checks T n c z' w → r ≡ checks (tableFor R z') (rows R) (columns R) z' w
   check-read n-is w e = rw (table-is, n-is, c-is) at e
 
-  -- what coding in a word of its own comes to, where r says whether the word checks
-  module _ (k : ℕ) (k-is : k ≡ kb R) (n-is : n ≡ m R) (places out : List ℕ) (e : blockNumber R z' places (length out) ≡ 0)
-      (w : List ℕ) (r : Bool) (h : Attempted T k n c z' places w r) where
-    stairs-here : Solvable (tableFor R z') (kb R) (m R) (rows R) (columns R)
-    stairs-here = let taken = block-taken R z' places (length out) e in ready R z' (taken .judged) (taken .size) .stairs
-
-    solution-here : Solution (tableFor R z') (kb R) (m R) (columns R) z' places w
-    solution-here = rw (table-is, k-is, n-is, c-is) at (h .solution)
-
-    long-places : length places ≡ kb R * z'
-    long-places = block-taken R z' places (length out) e .long
-
-    has-parity : r ≡ hasParity (tableFor R z') (rows R) (columns R) z' places
-    has-parity =
-        check-read (n-is ∙ sym (rows-is R)) w (h .tried)
-        ∙ solved-checks (tableFor R z') (rows R) (columns R) z' places (kb R) long-places stairs-here w solution-here
-
-    pub attempt-none : r ≡ false → BlockCoded R z' places out (record { number = 15; count = 0 }) out
-    attempt-none q = coded-none R z' places out e (sym has-parity ∙ q)
-
-    pub attempt-done : r ≡ true → (out' : List ℕ) → out' ≡ w ++ drop (length w) out
-        → BlockCoded R z' places out (record { number = 0; count = length w }) out'
-    attempt-done q out' o =
-        let has = sym has-parity ∙ q in
-        let long : length w ≡ columns R * z' = solution-here .size in
-        let word : w ≡ coded (tableFor R z') (rows R) (columns R) z' places =
-        solved-coded (tableFor R z') (rows R) (columns R) z' places (kb R) long-places stairs-here w solution-here has in
-        coded-done R z' places out e has (length w) long out' (o ∙ ap₂ (λ (x : List ℕ) (y : ℕ). x ++ drop y out) word long)
+  -- a word that was solved behind the places is their coded block
+  pub coded-read : (k : ℕ) → k ≡ kb R → n ≡ m R → (places : List ℕ) → Taken R z' places → (w : List ℕ) → Solution T k n c z' places w
+      → w ≡ coded (tableFor R z') (rows R) (columns R) z' places
+  coded-read k k-is n-is places taken w h =
+      solved-coded (tableFor R z') (rows R) (columns R) z' places (kb R) (taken .long) (ready R z' (taken .judged) (taken .size) .stairs) w
+      (rw (table-is, k-is, n-is, c-is) at h)

@@ -2,11 +2,12 @@
 use mathlib.Core.Path.{_≡_, refl, sym, ap, ap₂, _∙_}
 use mathlib.Core.Bool.{cond}
 use mathlib.Core.List.{List}
-use Prim.Native.Nat.{ℕ, zero, suc, _+_, _*_, _≤_, _<_}
+use Prim.Native.Nat.{ℕ, zero, suc, _+_, _*_, _%_, _≤_, _<_}
 use native.Mathlib.Nat.{add-zero, zero-add, mod-eq-of-lt, mod-lt}
 use native.Mathlib.Omega.{arith}
 use lib.Arith.{digits-lt}
 use lib.Dec.{eqb, ltb}
+use lib.ListN.{getD}
 use borrow.Author.Tests.{lt-ltb, le-ltb}
 use Rattle.bits.specs.Ranges.{sumBelow}
 use Rattle.bits.proofs.Ranges.{last-or}
@@ -19,6 +20,10 @@ use Rattle.parity.proofs.Spread.{entry-bit-empty}
 pub bit-lt : (w : List ℕ) (p : ℕ) → lowBit w p < 2
 unfolding lowBit
 bit-lt w p = omega arith
+
+pub same-bit : (v w : List ℕ) (p : ℕ) → getD v p 0 ≡ getD w p 0 → lowBit v p ≡ lowBit w p
+unfolding lowBit
+same-bit v w p e = ap (λ (x : ℕ). x % 2) e
 
 -- the entry 0
 entry-bit-zero : (z : ℕ) (w : List ℕ) (s base u : ℕ) → s ≡ 0 → u < z → entryBit z w s base u ≡ lowBit w (base + u)
@@ -37,7 +42,12 @@ module _ (T : List ℕ) (columns z : ℕ) (v w : List ℕ) (n : ℕ) (some : 0 <
   unfolding stack
   stack-same r u = sum-same r _ _ (λ i l. part-same i u)
 
--- one column more over all rows
+-- one row more, and one column more over all rows
+pub stack-more : (T : List ℕ) (columns z : ℕ) (w : List ℕ) (n r u : ℕ)
+    → stack T columns z w n (suc r) u ≡ stack T columns z w n r u + rowPart T columns z w n r u
+unfolding stack sumBelow
+stack-more T columns z w n r u = refl
+
 pub stack-column : (T : List ℕ) (columns z : ℕ) (w : List ℕ) (n r u : ℕ)
     → stack T columns z w (suc n) r u ≡ stack T columns z w n r u + sumBelow r (λ i. term T columns z w i u n)
 unfolding stack rowPart sumBelow

@@ -1,15 +1,16 @@
--- A word that checks over a staircase table solves it: the rows before n, added together, telescope.
-use mathlib.Core.Path.{_≡_, refl, subst}
+-- A word checks over a staircase table exactly where it solves it: the rows before n, added together, telescope.
+use mathlib.Core.Path.{_≡_, refl, sym, ap, subst}
 use mathlib.Core.Bool.{true}
 use mathlib.Core.List.{List}
 use Prim.Native.Nat.{ℕ, zero, suc, _+_, _*_, _%_, _≤_, _<_}
 use native.Mathlib.Omega.{arith}
 use Rattle.bits.specs.Ranges.{sumBelow}
+use Rattle.bits.proofs.Ranges.{last-or}
 use Rattle.profile.proofs.Stairs.{Staircase}
 use Rattle.parity.specs.Matrix.{checks}
 use Rattle.parity.specs.steps.Grouped.{lowBit, rowPart, stack, Solved}
-use Rattle.parity.proofs.Spread.{checks-row}
-use Rattle.parity.proofs.Rows.{bit-lt, stack-column, edge, edge-in, edge-out, row-shape, column-sum}
+use Rattle.parity.proofs.Spread.{checks-row, row-checks}
+use Rattle.parity.proofs.Rows.{bit-lt, stack-more, stack-column, edge, edge-in, edge-out, row-shape, column-sum}
 
 -- a table whose rows are all those of the staircase, and its columns past kb too
 pub record Solvable (T : List ℕ) (kb m rows columns : ℕ) : Type 0 where
@@ -36,6 +37,34 @@ module _ (T : List ℕ) (kb m columns z : ℕ) (w : List ℕ) (S : Staircase T k
   telescope u low h zero l = refl
   telescope u low h (suc n) l =
       omega (arith, telescope u low h n (omega arith), h n l, row-shape T kb m columns z w S u low n l)
+
+  -- the other way: in a word that solves the staircase each stair is what the rows before it sum to
+  stair-sum : Solved T kb m columns z w → (u : ℕ) → u < z → (n : ℕ) → n ≤ m → (together n u + edge w kb m z u n) % 2 ≡ 0
+  unfolding stack sumBelow edge
+  stair-sum s u low zero l = refl
+  stair-sum s u low (suc n) l =
+      last-or (suc n) m (omega arith)
+      (λ h. omega (arith, edge-in w kb m z u n h, s .next (suc n) u (omega arith) h low))
+      (λ e. omega (arith, whole u low, s .first u low, edge-out w kb m z u (suc n) (omega arith), ap (λ (r : ℕ). together r u) e))
+
+  -- so a row's own sum, between two stairs, is even
+  row-sum-even : Solved T kb m columns z w → (u : ℕ) → u < z → (i : ℕ) → i < m → rowPart T columns z w (kb + m) i u % 2 ≡ 0
+  row-sum-even s u low i l =
+      omega (
+        arith,
+        row-shape T kb m columns z w S u low i l,
+        stair-sum s u low i (omega arith),
+        stair-sum s u low (suc i) l,
+        stack-more T columns z w (suc kb) i u,
+      )
+
+pub solved-checked : (T : List ℕ) (kb m rows columns z : ℕ) (w : List ℕ) → Solvable T kb m rows columns → Solved T kb m columns z w
+    → checks T rows columns z w ≡ true
+solved-checked T kb m rows columns z w S s =
+    let all : columns ≡ kb + m = omega (arith, S .wide, S .tall) in
+    row-checks T columns z w rows
+    (λ i u l low.
+    subst (λ (n : ℕ). rowPart T columns z w n i u % 2 ≡ 0) (sym all) (row-sum-even T kb m columns z w (S .stairs) s u low i (omega (arith, S .tall))))
 
 module _ (T : List ℕ) (kb m rows columns z : ℕ) (w : List ℕ) (S : Solvable T kb m rows columns) (e : checks T rows columns z w ≡ true) where
   row-sum : (u : ℕ) → u < z → (i : ℕ) → i < m → rowPart T columns z w (kb + m) i u % 2 ≡ 0

@@ -14,11 +14,10 @@ withParity rows z sys n = sys ++ digits (rows * z) n
 unfoldable pub checksWith : List ℕ → ℕ → ℕ → ℕ → List ℕ → ℕ → Bool
 checksWith T rows columns z sys n = checks T rows columns z (withParity rows z sys n)
 
--- there are parity bits with which the block checks (number 15 where there are none)
+-- there are parity bits with which the block checks: for every staircase table and all places there are, which is proved and not defined
 unfoldable pub hasParity : List ℕ → ℕ → ℕ → ℕ → List ℕ → Bool
 hasParity T rows columns z sys = anyBelow (2 ^ (rows * z)) (checksWith T rows columns z sys)
 
--- the coded block: the places with the first choice of parity bits with which they check (there is one at most; where there is none, 15 is answered);
--- "Filler places stay marked"
+-- the coded block: the places with the first choice of parity bits with which they check (there is exactly one); "Filler places stay marked"
 unfoldable pub coded : List ℕ → ℕ → ℕ → ℕ → List ℕ → List ℕ
 coded T rows columns z sys = withParity rows z sys (firstBelow (2 ^ (rows * z)) (checksWith T rows columns z sys))

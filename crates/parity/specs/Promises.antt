@@ -12,7 +12,7 @@ use Rattle.bits.specs.declared.number.Written.{Written}
 use Rattle.profile.specs.Record.{kb, t, z, rows, columns, table}
 use Rattle.profile.specs.Promises.{judgeConditions}
 use Rattle.parity.specs.Matrix.{checks}
-use Rattle.parity.specs.Coded.{hasParity, coded}
+use Rattle.parity.specs.Coded.{coded}
 use Rattle.parity.specs.declared.Verdict.{Verdict}
 
 -- the record has the size z'; its table
@@ -28,16 +28,10 @@ unfit R z' n w = not (hasSize R z') || not (eqb (length w) (n * z'))
 
 -- ---- coding one block of places, where the output is `lent` octets long
 
--- before it starts: "5 and 6 for a profile", 8, 11 "for an output shorter than what it would write", 12 for any octet "over 2 where filler marks
--- are taken too"
-abbrev pub blockConditions : List ℕ → ℕ → List ℕ → ℕ → List (ℕ × Bool)
-blockConditions R z' places lent =
-    judgeConditions R ++ (8, unfit R z' (kb R) places) ∷ (11, ltb lent (columns R * z')) ∷ (12, someOver 2 places) ∷ []
-
--- and then 15 as sending answers it, "some block has no parity bits with which it checks"
+-- "5 and 6 for a profile", 8, 11 "for an output shorter than what it would write", 12 for any octet "over 2 where filler marks are taken too"
 abbrev pub codeConditions : List ℕ → ℕ → List ℕ → ℕ → List (ℕ × Bool)
 codeConditions R z' places lent =
-    blockConditions R z' places lent ++ (15, not (hasParity (tableFor R z') (rows R) (columns R) z' places)) ∷ []
+    judgeConditions R ++ (8, unfit R z' (kb R) places) ∷ (11, ltb lent (columns R * z')) ∷ (12, someOver 2 places) ∷ []
 
 unfoldable pub codeNumber : List ℕ → ℕ → List ℕ → ℕ → ℕ
 codeNumber R z' places lent = answered (codeConditions R z' places lent)

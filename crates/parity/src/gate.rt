@@ -6,8 +6,7 @@ use bits::number::SHORT_OUTPUT;
 ghost use mathlib.Core.Path.{_≡_};
 ghost use Prim.Native.Nat.{_≤_};
 ghost use Rattle.profile.specs.Promises.{judged};
-ghost use Rattle.parity.specs.Promises.{unfit, checkNumber};
-ghost use Rattle.parity.specs.steps.Gate.{blockNumber};
+ghost use Rattle.parity.specs.Promises.{unfit, codeNumber, checkNumber};
 
 // Whether z is no size of the profile, or w is not n groups of z places. The product is made only of a z that is a size.
 fn is_unfit(profile: &[u8], z: usize, n: usize, w: &[u8]) -> bool
@@ -21,9 +20,9 @@ fn is_unfit(profile: &[u8], z: usize, n: usize, w: &[u8]) -> bool
     w.len() != n * z
 }
 
-// The number of a block that is to be coded to an output of `room` octets, but for 15, which coding finds.
+// The number of a block that is to be coded to an output of `room` octets.
 pub fn block_number(profile: &[u8], z: usize, places: &[u8], room: usize) -> u32
-    ensures { λ r. ⌜ r ≡ blockNumber (now (profile .entry)) z (now (places .entry)) room ⌝ }
+    ensures { λ r. ⌜ r ≡ codeNumber (now (profile .entry)) z (now (places .entry)) room ⌝ }
 {
     let number = profile::judge(profile);
     if number != DONE {

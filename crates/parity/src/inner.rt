@@ -1,12 +1,11 @@
 // Coding and checking where the table is known to go with z and the word's length is right.
-use crate::run;
 use crate::stairs;
 use crate::sums;
 ghost use mathlib.Core.Path.{_≡_};
 ghost use Prim.Native.Nat.{_*_};
 ghost use lib.ListN.{length};
 ghost use Rattle.parity.specs.Matrix.{checks};
-ghost use Rattle.parity.specs.steps.Grouped.{Shape, Codable, Solution, Attempted};
+ghost use Rattle.parity.specs.steps.Grouped.{Shape, Codable, Solution};
 ghost use Rattle.parity.specs.steps.Runs.{Sums};
 
 // Whether the word checks: every row of the spread-out matrix sums to an even number over it.
@@ -46,22 +45,4 @@ pub fn code(table: &[u8], kb: usize, m: usize, columns: usize, z: usize, word: &
     let mut room = [0u8; 972];
     let used = m * z;
     solve(table, kb, m, columns, z, word, &mut room[..used]);
-}
-
-// Codes the places in `word`, and answers whether the word checks: where it does not, no parity bits do (15).
-pub fn attempt(
-    table: &[u8],
-    kb: usize,
-    m: usize,
-    columns: usize,
-    z: usize,
-    places: &[u8],
-    word: &mut [u8],
-) -> bool
-    requires { ⌜ Codable (now table) kb m columns z (now word) × (length (now places) ≡ kb * z) ⌝ }
-    ensures { λ r. ⌜ Attempted (now (table .entry)) kb m columns z (now (places .entry)) (now (word .exit)) r ⌝ }
-{
-    run::copy(word, places);
-    code(table, kb, m, columns, z, word);
-    checks(table, m, columns, z, word)
 }

@@ -6,14 +6,14 @@ mod stairs;
 mod sums;
 
 use bits::number::DONE;
-use bits::number::NO_PARITY;
 use bits::number::Written;
 ghost use mathlib.Core.Path.{_≡_};
 ghost use Prim.Native.Nat.{_*_};
 ghost use lib.ListN.{length};
-ghost use Rattle.profile.specs.Record.{columns};
-ghost use Rattle.parity.specs.Promises.{BlockCoded, WordChecked};
-ghost use Rattle.parity.specs.steps.Gate.{blockNumber};
+ghost use Rattle.profile.specs.Record.{rows, columns};
+ghost use Rattle.parity.specs.Coded.{coded};
+ghost use Rattle.parity.specs.Promises.{tableFor, BlockCoded, WordChecked};
+ghost use Rattle.parity.specs.steps.Gate.{Taken};
 
 // A check's answer: its number, and whether the word checks, no with a refusal.
 pub struct Verdict {
@@ -21,27 +21,18 @@ pub struct Verdict {
     pub checks: bool,
 }
 
-// Codes places that no number before 15 refuses. They are coded in `word`, which is handed out only where it checks.
-fn code_in(profile: &[u8], z: usize, places: &[u8], word: &mut [u8], out: &mut [u8]) -> Written
-    requires { ⌜ (blockNumber (now profile) z (now places) (length (now out)) ≡ 0) × (length (now word) ≡ columns (now profile) * z) ⌝ }
-    ensures { λ r. ⌜ BlockCoded (now (profile .entry)) z (now (places .entry)) (now (out .entry)) r (now (out .exit)) ⌝ }
+// Codes places that no number refuses, in `word`, which is as long as their coded block.
+fn code_in(profile: &[u8], z: usize, places: &[u8], word: &mut [u8])
+    requires { ⌜ Taken (now profile) z (now places) × (length (now word) ≡ columns (now profile) * z) ⌝ }
+    ensures { λ _. ⌜ now (word .exit) ≡ coded (tableFor (now (profile .entry)) z) (rows (now (profile .entry))) (columns (now (profile .entry))) z (now (places .entry)) ⌝ }
 {
     let kb = profile::inner::kb(profile);
     let m = profile::inner::m(profile);
     let columns = profile::inner::columns(profile);
     let index = profile::inner::index_of(profile, z);
     let table = profile::inner::table(profile, index);
-    if !inner::attempt(table, kb, m, columns, z, places, word) {
-        return Written {
-            number: NO_PARITY,
-            count: 0,
-        };
-    }
-    run::copy(out, word);
-    Written {
-        number: DONE,
-        count: word.len(),
-    }
+    run::copy(word, places);
+    inner::code(table, kb, m, columns, z, word);
 }
 
 // Codes one block of places, 0, 1 and the filler mark 2: its (kb+m)·z octets go to the front of out (document 01, step 4).
@@ -52,9 +43,9 @@ pub fn code_block(profile: &[u8], z: usize, places: &[u8], out: &mut [u8]) -> Wr
     if number != DONE {
         return Written { number, count: 0 };
     }
-    let n = profile::inner::columns(profile) * z;
-    let mut word = [0u8; 2592];
-    code_in(profile, z, places, &mut word[..n], out)
+    let count = profile::inner::columns(profile) * z;
+    code_in(profile, z, places, &mut out[..count]);
+    Written { number, count }
 }
 
 // Checks one word of bits: whether every row of the spread-out matrix sums to an even number over it.

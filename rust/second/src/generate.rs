@@ -9,7 +9,7 @@ mod makers;
 pub mod parity;
 pub mod profile;
 pub mod rate;
-mod records;
+pub mod records;
 pub mod recv;
 pub mod send;
 mod shelf;

@@ -104,26 +104,22 @@ impl Equations {
         }
     }
 
-    /// Unknowns with which all the equations hold, or none where there are no such. What the
-    /// equations leave open is 0.
-    pub fn solve(&self, right: &[u8]) -> Option<Vec<u8>> {
+    /// Unknowns with which all the equations hold, wherever there are such. What the equations
+    /// leave open is 0.
+    pub fn solve(&self, right: &[u8]) -> Vec<u8> {
         // Zeros stand where the left sides do, so that only the right sides are summed.
         let right = Row::of(&[vec![0; self.unknowns], right.to_vec()].concat());
-        let sums: Vec<u8> = self
-            .rows
-            .iter()
-            .map(|row| u8::from(row.sum_over(&right)))
-            .collect();
-        let (values, rest) = sums.split_at(self.given.len());
-        // A row with nothing on the left says that nothing is its right side.
-        if rest.contains(&1) {
-            return None;
-        }
         let mut unknowns = vec![0; self.unknowns];
-        for (&unknown, &value) in self.given.iter().zip(values) {
-            unknowns[unknown] = value;
+        for (&unknown, row) in self.given.iter().zip(&self.rows) {
+            unknowns[unknown] = u8::from(row.sum_over(&right));
         }
-        Some(unknowns)
+        unknowns
+    }
+
+    /// Whether there are unknowns for every right side: no row has nothing on the left.
+    #[cfg(test)]
+    pub fn have_a_solution(&self) -> bool {
+        self.given.len() == self.rows.len()
     }
 }
 
@@ -199,20 +195,24 @@ mod tests {
     fn equations_with_one_solution() {
         let equations = Equations::new(&matrix(&[&[0, 1, 1], &[1, 1, 0], &[1, 1, 1]]));
         // b + c = 1, a + b = 0, a + b + c = 1: c = 1, b = 0, a = 0.
-        assert_eq!(equations.solve(&[1, 0, 1]), Some(vec![0, 0, 1]));
-        assert_eq!(equations.solve(&[0, 0, 0]), Some(vec![0, 0, 0]));
+        assert!(equations.have_a_solution());
+        assert_eq!(equations.solve(&[1, 0, 1]), [0, 0, 1]);
+        assert_eq!(equations.solve(&[0, 0, 0]), [0, 0, 0]);
     }
 
     #[test]
     fn equations_without_a_solution() {
         // The third row is the sum of the other two.
-        let equations = Equations::new(&matrix(&[&[1, 1, 0], &[0, 1, 1], &[1, 0, 1]]));
-        assert_eq!(equations.solve(&[1, 0, 0]), None);
-        assert_eq!(equations.solve(&[1, 1, 1]), None);
-        assert!(equations.solve(&[1, 0, 1]).is_some());
+        let matrix_of_three = matrix(&[&[1, 1, 0], &[0, 1, 1], &[1, 0, 1]]);
+        let equations = Equations::new(&matrix_of_three);
+        assert!(!equations.have_a_solution());
+        let sums = |right: &[u8]| matrix_of_three.sums_over(&Row::of(&equations.solve(right)));
+        assert_ne!(sums(&[1, 0, 0]), [1, 0, 0]);
+        assert_ne!(sums(&[1, 1, 1]), [1, 1, 1]);
+        assert_eq!(sums(&[1, 0, 1]), [1, 0, 1]);
         let nothing = Equations::new(&matrix(&[&[0, 0]]));
-        assert_eq!(nothing.solve(&[1]), None);
-        assert_eq!(nothing.solve(&[0]), Some(vec![0, 0]));
+        assert!(!nothing.have_a_solution());
+        assert_eq!(nothing.solve(&[0]), [0, 0]);
     }
 
     #[test]
@@ -229,10 +229,9 @@ mod tests {
                 .map(|number| binary(number, columns))
                 .filter(|word| matrix.sums_over(&Row::of(word)) == right)
                 .collect();
-            match equations.solve(&right) {
-                Some(solution) => assert!(solutions.contains(&solution)),
-                None => assert!(solutions.is_empty()),
-            }
+            let solution = equations.solve(&right);
+            assert!(solutions.contains(&solution) || solutions.is_empty());
+            assert!(!solutions.is_empty() || !equations.have_a_solution());
         }
     }
 }

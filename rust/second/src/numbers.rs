@@ -47,5 +47,4 @@ pub const SHORT_SHARE: Number = 13;
 /// No block is sent as these bits.
 pub const UNSENT: Number = 14;
 
-/// Some block has no parity bits with which it checks.
-pub const NO_PARITY: Number = 15;
+// 15 is unused: every block has parity bits with which it checks (document 02, CR 6).

@@ -3,13 +3,13 @@
 use std::ops::Range;
 
 use crate::matrix::{Equations, Matrix, Row};
-use crate::numbers::{Number, NO_BIT, NO_PARITY, OUTPUT, PARAMETER};
+use crate::numbers::{Number, NO_BIT, OUTPUT, PARAMETER};
 use crate::record::{profile, Entry, Profile, Table};
 
 /// "Inside a code block a filler place is marked 2".
 pub const FILLER: u8 = 2;
 
-/// Codes one block of places alone: the count of places written, or 5, 6, 8, 11, 12, 15.
+/// Codes one block of places alone: the count of places written, or 5, 6, 8, 11, 12.
 pub fn encode(record: &[u8], z: u64, places: &[u8], output: &mut [u8]) -> Result<usize, Number> {
     let profile = profile(record)?;
     let table = table(&profile, z)?;
@@ -23,7 +23,7 @@ pub fn encode(record: &[u8], z: u64, places: &[u8], output: &mut [u8]) -> Result
     if places.iter().any(|&place| place > FILLER) {
         return Err(NO_BIT);
     }
-    let coded = Code::new(&profile, table.z).coded(places)?;
+    let coded = Code::new(&profile, table.z).coded(places);
     output[..count].copy_from_slice(&coded);
     Ok(count)
 }
@@ -86,14 +86,15 @@ impl Code {
     }
 
     /// "The coded block is K systematic places and then m·z parity bits. It must check with filler
-    /// read as 0. Filler places stay marked." 15 where no parity bits make it check.
-    pub fn coded(&self, places: &[u8]) -> Result<Vec<u8>, Number> {
+    /// read as 0. Filler places stay marked." With an accepted profile some parity bits make it
+    /// check.
+    pub fn coded(&self, places: &[u8]) -> Vec<u8> {
         let read = |&place: &u8| if place == FILLER { 0 } else { place };
         let bits: Vec<u8> = places.iter().map(read).collect();
         // A row is even when the parity bits add to it what the systematic ones do.
         let sums = self.systematic.sums_over(&Row::of(&bits));
-        let parity = self.parity.solve(&sums).ok_or(NO_PARITY)?;
-        Ok([places, &parity].concat())
+        let parity = self.parity.solve(&sums);
+        [places, &parity].concat()
     }
 }
 

@@ -30,7 +30,7 @@ pub fn receive(
     let block = candidate(&transfer, bits);
     // "it accepts exactly the bits that sending some transport block of that length gives". No
     // other block than the candidate has these systematic bits.
-    if transfer.sent(&block).as_deref() != Ok(bits) {
+    if transfer.sent(&block) != bits {
         return Err(UNSENT);
     }
     output[..block.len()].copy_from_slice(&block);

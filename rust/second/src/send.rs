@@ -3,14 +3,14 @@
 use crate::numbers::{Number, OUTPUT};
 use crate::transfer::{Asked, Transfer};
 
-/// The count of bits written, which is G, or 5 to 11, or 15.
+/// The count of bits written, which is G, or 5 to 11.
 pub fn send(record: &[u8], block: &[u8], asked: Asked, output: &mut [u8]) -> Result<usize, Number> {
     // "A is 8 times the octets".
     let transfer = Transfer::new(record, 8 * block.len() as u64, asked)?;
     if output.len() < transfer.g {
         return Err(OUTPUT);
     }
-    let bits = transfer.sent(block)?;
+    let bits = transfer.sent(block);
     output[..transfer.g].copy_from_slice(&bits);
     Ok(transfer.g)
 }

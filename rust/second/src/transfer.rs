@@ -47,8 +47,8 @@ impl Transfer {
         })
     }
 
-    /// The G bits that a transport block is sent as, or 15. The block has the transfer's length.
-    pub fn sent(&self, block: &[u8]) -> Result<Vec<u8>, Number> {
+    /// The G bits that a transport block is sent as. The block has the transfer's length.
+    pub fn sent(&self, block: &[u8]) -> Vec<u8> {
         // Step 1.
         let bits = with_checksum(&unpacked(block));
         let code = Code::new(&self.profile, self.plan.z);
@@ -62,11 +62,11 @@ impl Transfer {
             let mut places = own.to_vec();
             places.resize(self.plan.k, FILLER);
             // Steps 4 and 6.
-            let coded = code.coded(&places)?;
+            let coded = code.coded(&places);
             sent.extend(matched(&coded, self.share));
         }
         // Step 5: "The G − C·E places left at the end hold 0."
         sent.resize(self.g, 0);
-        Ok(sent)
+        sent
     }
 }

@@ -55,7 +55,7 @@ returns c = let st = c .before .before .before .before .before .before .before .
     let tried = c .before .before .before .rebuild-bits in
     let long = tried .kept .1 .1 .1 .1 .0 in
     let told = rw count at (tried .ensures .other (not-true _ (c .if1 .taken))) in
-    decided-unsent R (a .octets) (a .terms) s h (λ parity all sum. told parity all) (now (a .out))
+    decided-unsent R (a .octets) (a .terms) s h (λ all sum. told all) (now (a .out))
 
 slice-reshare-prefix-is-attached : tie.Need-slice-reshare-prefix-is-attached
 unfolding blockBits
@@ -99,7 +99,7 @@ is-attached-requires c κs = let st = c .before .before .before .before .before 
     let long = tried .kept .1 .1 .1 .1 .0 in
     let is = rw count at (tried .ensures .sent (not-false _ (c .before .if1 .left))) in
     let t = gathered R (blockBits (a .octets)) (a .terms) s in
-    let front : take (plan .result .bits) (tried .last .1 .1 .1 .1 .0) ≡ t = ap (λ (n : ℕ). take n (tried .last .1 .1 .1 .1 .0)) count ∙ is .2 in
+    let front : take (plan .result .bits) (tried .last .1 .1 .1 .1 .0) ≡ t = ap (λ (n : ℕ). take n (tried .last .1 .1 .1 .1 .0)) count ∙ is .1 in
     let single = gathered-bits R (blockBits (a .octets)) (a .terms) s (has-room-of R (a .octets) (a .terms) s h) in
     let size : length t ≡ blockBits (a .octets) = gathered-length R (blockBits (a .octets)) (a .terms) s (has-room-of R (a .octets) (a .terms) s h) in
     (λ k. subst (λ (l : List ℕ). getD l k 0 < 2) (sym front) (single k), rw (front, size) (omega arith))
@@ -120,12 +120,12 @@ returns-2 c = let st = c .before .before .before .before .before .before .before
     let long = tried .kept .1 .1 .1 .1 .0 in
     let is = rw count at (tried .ensures .sent (not-false _ (c .before .before .before .if1 .left))) in
     let t = gathered R (blockBits (a .octets)) (a .terms) s in
-    let front : take (plan .result .bits) (tried .last .1 .1 .1 .1 .0) ≡ t = ap (λ (n : ℕ). take n (tried .last .1 .1 .1 .1 .0)) count ∙ is .2 in
+    let front : take (plan .result .bits) (tried .last .1 .1 .1 .1 .0) ≡ t = ap (λ (n : ℕ). take n (tried .last .1 .1 .1 .1 .0)) count ∙ is .1 in
     let single = gathered-bits R (blockBits (a .octets)) (a .terms) s (has-room-of R (a .octets) (a .terms) s h) in
     let size : length t ≡ blockBits (a .octets) = gathered-length R (blockBits (a .octets)) (a .terms) s (has-room-of R (a .octets) (a .terms) s h) in
     let told = c .before .is-attached .ensures in
     decided-unsent R (a .octets) (a .terms) s h
-    (λ parity all sum. true≢false (sym sum ∙ ap checked (sym front) ∙ sym told ∙ not-true _ (c .if2 .taken))) (now (a .out))
+    (λ all sum. true≢false (sym sum ∙ ap checked (sym front) ∙ sym told ∙ not-true _ (c .if2 .taken))) (now (a .out))
 
 slice-reshare-prefix-pack : tie.Need-slice-reshare-prefix-pack
 unfolding blockBits
@@ -169,7 +169,7 @@ pack-requires c κs = let st = c .before .before .before .before .before .before
     let long = tried .kept .1 .1 .1 .1 .0 in
     let is = rw count at (tried .ensures .sent (not-false _ (c .before .before .before .before .before .if1 .left))) in
     let t = gathered R (blockBits (a .octets)) (a .terms) s in
-    let front : take (plan .result .bits) (tried .last .1 .1 .1 .1 .0) ≡ t = ap (λ (n : ℕ). take n (tried .last .1 .1 .1 .1 .0)) count ∙ is .2 in
+    let front : take (plan .result .bits) (tried .last .1 .1 .1 .1 .0) ≡ t = ap (λ (n : ℕ). take n (tried .last .1 .1 .1 .1 .0)) count ∙ is .1 in
     let single = gathered-bits R (blockBits (a .octets)) (a .terms) s (has-room-of R (a .octets) (a .terms) s h) in
     let size : length t ≡ blockBits (a .octets) = gathered-length R (blockBits (a .octets)) (a .terms) s (has-room-of R (a .octets) (a .terms) s h) in
     (st .pre .2, rw (front, size) (omega arith), λ k. subst (λ (l : List ℕ). getD l k 0 < 2) (sym front) (single k))
@@ -193,12 +193,12 @@ returns-3 c = let st = c .before .before .before .before .before .before .before
     let long = tried .kept .1 .1 .1 .1 .0 in
     let is = rw count at (tried .ensures .sent (not-false _ (c .before .before .before .before .before .before .before .before .if1 .left))) in
     let t = gathered R (blockBits (a .octets)) (a .terms) s in
-    let front : take (plan .result .bits) (tried .last .1 .1 .1 .1 .0) ≡ t = ap (λ (n : ℕ). take n (tried .last .1 .1 .1 .1 .0)) count ∙ is .2 in
+    let front : take (plan .result .bits) (tried .last .1 .1 .1 .1 .0) ≡ t = ap (λ (n : ℕ). take n (tried .last .1 .1 .1 .1 .0)) count ∙ is .1 in
     let single = gathered-bits R (blockBits (a .octets)) (a .terms) s (has-room-of R (a .octets) (a .terms) s h) in
     let size : length t ≡ blockBits (a .octets) = gathered-length R (blockBits (a .octets)) (a .terms) s (has-room-of R (a .octets) (a .terms) s h) in
     let told = c .before .before .before .before .before .before .is-attached .ensures in
     let sum : checked t ≡ true = ap checked (sym front) ∙ sym told ∙ not-false _ (c .before .before .before .before .before .if2 .left) in
-    decided-found R (a .octets) (a .terms) s h (is .0) (is .1) sum (now (a .out)) _ (st .pre .2)
+    decided-found R (a .octets) (a .terms) s h (is .0) sum (now (a .out)) _ (st .pre .2)
     (c .before .before .pack .ensures ∙ ap (λ (l : List ℕ). sets (now (a .out)) 0 (packed (a .octets) l)) front)
 
 pub receive-through-spec : {M : Type 1} → statement M

@@ -1,8 +1,9 @@
 -- `coding::send` meets its contract.
 use mathlib.Core.Path.{sym, _∙_}
+use lib.ListN.{length}
 use denote.Ref.{now}
 use borrow.Author.Needs.{needs}
-use Rattle.coding.proofs.Answers.{send-first, send-refused}
+use Rattle.coding.proofs.Answers.{request-is, send-refused}
 use Rattle.coding.proofs.send.Statement.{statement}
 use Rattle.coding.proofs.send.Tie as tie
 
@@ -13,8 +14,8 @@ returns : tie.Need-returns
 returns c =
     let a = c .before .before .before .before .before .args in
     let number = c .before .request-number in
-    let first = send-first (now (a .profile)) (now (a .block)) (a .terms) (a .g .0) (now (a .out)) (λ z. c .if1 .taken (number .ensures ∙ z)) in
-    send-refused (now (a .profile)) (now (a .block)) (a .terms) (a .g .0) (now (a .out)) (number .result) (number .ensures ∙ first) (c .if1 .taken)
+    let is = request-is (now (a .profile)) (now (a .block)) (a .terms) (a .g .0) (length (now (a .out))) in
+    send-refused (now (a .profile)) (now (a .block)) (a .terms) (a .g .0) (now (a .out)) (number .result) (number .ensures ∙ is) (c .if1 .taken)
 
 send-accepted-requires : tie.Need-send-accepted-requires
 send-accepted-requires c κs = sym (c .before .before .request-number .ensures) ∙ c .before .if1 .left

@@ -13,7 +13,7 @@ use Rattle.cutting.proofs.PlanFields.{bits-is, blocks-are}
 use Rattle.cutting.proofs.Transported.{length-transport, front-set, ready-transport}
 use Rattle.coding.proofs.Shares.{allocated}
 use Rattle.coding.proofs.RequestNumber.{request-passed}
-use Rattle.coding.proofs.Answers.{sent-whole}
+use Rattle.coding.proofs.Answers.{request-is, send-done}
 use Rattle.coding.proofs.send_through.Statement.{statement}
 use Rattle.coding.proofs.send_through.Tie as tie
 
@@ -107,7 +107,7 @@ returns c =
     let same : take (plan .result .bits) (attach .last .1 .0) ≡ transport block =
     ap (take (plan .result .bits)) (attach .ensures) ∙ front-set (now (a .bits)) (transport block) (plan .result .bits) (length-transport block ∙ sym count) (omega (arith, count, most, st .pre .1)) in
     let sent = c .before .before .send-bits in
-    sent-whole R block (a .terms) (a .g .0) (now (a .out)) (sent .result) (sent .last .1 .1 .1 .1 .1 .0) (st .pre .0) (rw (same, count) at (sent .ensures))
+    send-done R block (a .terms) (a .g .0) (now (a .out)) (sym (request-is R block (a .terms) (a .g .0) (length (now (a .out)))) ∙ st .pre .0) _ (rw (same, count) at (sent .ensures))
 
 pub send-through-spec : {M : Type 1} → statement M
 send-through-spec =

@@ -1,6 +1,6 @@
 -- What the steps of one code block promise each other. R is the profile's record and p the plan of its blocks.
 use mathlib.Core.Path.{_≡_}
-use mathlib.Core.Bool.{Bool, true, _&&_}
+use mathlib.Core.Bool.{Bool, true}
 use mathlib.Core.List.{List}
 use Prim.Native.Nat.{ℕ, _+_, _-_, _*_, _≤_}
 use lib.ListN.{length, take, drop}
@@ -9,7 +9,7 @@ use Rattle.profile.specs.Record.{kb, m, rows, columns, table}
 use Rattle.cutting.specs.declared.Plan.{Plan}
 use Rattle.cutting.specs.steps.Plans.{SomePlan, Ready}
 use Rattle.parity.specs.Matrix.{checks}
-use Rattle.parity.specs.Coded.{hasParity, coded}
+use Rattle.parity.specs.Coded.{coded}
 use Rattle.parity.specs.steps.Grouped.{Solution}
 use Rattle.matching.specs.Matching.{matched}
 
@@ -25,9 +25,6 @@ Fits R p w = length w ≡ wordSize R p
 abbrev pub checksBy : List ℕ → Plan → List ℕ → Bool
 checksBy R p w = checks (table R (p .index)) (rows R) (columns R) (p .z) w
 
-abbrev pub hasParityBy : List ℕ → Plan → List ℕ → Bool
-hasParityBy R p sys = hasParity (table R (p .index)) (rows R) (columns R) (p .z) sys
-
 abbrev pub codedBy : List ℕ → Plan → List ℕ → List ℕ
 codedBy R p sys = coded (table R (p .index)) (rows R) (columns R) (p .z) sys
 
@@ -38,10 +35,7 @@ SolvedBy R p sys w = Solution (table R (p .index)) (kb R) (m R) (columns R) (p .
 abbrev pub cutPlaces : Plan → List ℕ → ℕ → ℕ → List ℕ
 cutPlaces p bits start own = withFiller (p .places) (take own (drop start bits))
 
--- whether it has parity bits, and its coded block
-abbrev pub cutHasParity : List ℕ → Plan → List ℕ → ℕ → ℕ → Bool
-cutHasParity R p bits start own = hasParityBy R p (cutPlaces p bits start own)
-
+-- its coded block
 abbrev pub cutCoded : List ℕ → Plan → List ℕ → ℕ → ℕ → List ℕ
 cutCoded R p bits start own = codedBy R p (cutPlaces p bits start own)
 
@@ -62,9 +56,9 @@ pub record Stretch (R : List ℕ) (p : Plan) (s : List ℕ) (own : ℕ) (word : 
   pub room : own + (length word - p .places) ≤ length s
   pub single : AreBits s
 
--- the block with the systematic places sys has parity bits, and s is what it is sent as
+-- s is what the block with the systematic places sys is sent as
 unfoldable pub blockSentAs : List ℕ → ℕ → ℕ → ℕ → List ℕ → List ℕ → Bool
-blockSentAs T rows columns z sys s = hasParity T rows columns z sys && same (matched (coded T rows columns z sys) (length s)) s
+blockSentAs T rows columns z sys s = same (matched (coded T rows columns z sys) (length s)) s
 
 abbrev pub sentBy : List ℕ → Plan → List ℕ → List ℕ → Bool
 sentBy R p sys s = blockSentAs (table R (p .index)) (rows R) (columns R) (p .z) sys s

@@ -15,7 +15,7 @@ use Rattle.coding.specs.Promises.{cutConditions, requestConditions, notO
 unfoldable pub cutNumber : List ℕ → ℕ → Terms → ℕ → ℕ
 cutNumber R octets terms g = answered (cutConditions R (not (within 1 2048 octets)) octets terms g)
 
--- 5 to 11, all of sendNumber but 15. `need` octets are to be written: G, or A/8 where bits are received
+-- 5 to 11. `need` octets are to be written: G, or A/8 where bits are received
 unfoldable pub requestNumber : List ℕ → ℕ → Terms → ℕ → ℕ → ℕ → ℕ
 requestNumber R octets terms g need room = answered (requestConditions R (not (within 1 2048 octets)) octets terms g need room)
 

@@ -11,7 +11,6 @@ use Rattle.bits.specs.declared.count.Terms.{Terms}
 use Rattle.cutting.specs.Plan.{blockBits, blocks, ownBits}
 use Rattle.cutting.specs.Promises.{planNumber, planned}
 use Rattle.cutting.specs.declared.Plan.{Plan}
-use Rattle.coding.specs.Blocks.{someWithoutParity}
 use Rattle.coding.specs.Allocation.{share}
 use Rattle.coding.specs.Joining.{joined, radioBits}
 use Rattle.coding.specs.Receiving.{someSentAs, receivedBlock, someWithoutRoom}
@@ -45,9 +44,8 @@ pub record ReceivablePlan (R : List ℕ) (terms : Terms) (bits : List ℕ) (p : 
 -- the gathered bits are sent as the received ones, and stand in front of room; or they are not
 pub record Rebuilt (R : List ℕ) (terms : Terms) (bits : List ℕ) (b : ℕ) (r : Bool) (room : List ℕ) : Type 0 where
   pub sent : r ≡ true
-      → (someWithoutParity R b (gathered R b terms bits) ≡ false) × (radioBits R b (gathered R b terms bits) terms (length bits) ≡ bits)
-      × (take b room ≡ gathered R b terms bits)
-  pub other : r ≡ false → someWithoutParity R b (gathered R b terms bits) ≡ false → radioBits R b (gathered R b terms bits) terms (length bits) ≡ bits → ⊥
+      → (radioBits R b (gathered R b terms bits) terms (length bits) ≡ bits) × (take b room ≡ gathered R b terms bits)
+  pub other : r ≡ false → radioBits R b (gathered R b terms bits) terms (length bits) ≡ bits → ⊥
 
 -- the received bits were decided on: the block that is sent as them was written, or they were refused with 14
 pub record Decided (R : List ℕ) (octets : ℕ) (terms : Terms) (bits out : List ℕ) (r : Written) (out' : List ℕ) : Type 0 where

@@ -1,16 +1,13 @@
 -- What the steps of sending promise each other. R is the profile's record, b is B, bits the transport bits and p their plan.
 use mathlib.Core.Path.{_≡_}
-use mathlib.Core.Bool.{true, false}
 use mathlib.Core.List.{List, _++_}
 use Prim.Native.Nat.{ℕ, _≤_}
 use lib.ListN.{length, drop}
 use Rattle.bits.specs.declared.count.Terms.{Terms}
-use Rattle.bits.specs.declared.number.Written.{Written}
 use Rattle.cutting.specs.Plan.{blocks}
 use Rattle.cutting.specs.declared.Plan.{Plan}
 use Rattle.cutting.specs.steps.Plans.{Ready}
-use Rattle.coding.specs.Blocks.{someWithoutParity}
-use Rattle.coding.specs.Joining.{blockSent, joined, radioBits}
+use Rattle.coding.specs.Joining.{blockSent, joined}
 use Rattle.coding.specs.steps.Shares.{Allocated}
 
 -- transport bits that are to be sent as g bits into out
@@ -24,8 +21,3 @@ pub record BlocksSent (R : List ℕ) (b : ℕ) (bits : List ℕ) (terms : Terms)
   pub most : at ≤ g
   pub size : length (joined (blocks R b) (blockSent R b bits terms g)) ≡ at
   pub output : out' ≡ joined (blocks R b) (blockSent R b bits terms g) ++ drop at out
-
--- transport bits were sent, or refused with 15
-pub record BitsSent (R : List ℕ) (b : ℕ) (bits : List ℕ) (terms : Terms) (g : ℕ) (out : List ℕ) (r : Written) (out' : List ℕ) : Type 0 where
-  pub done : someWithoutParity R b bits ≡ false → (r .number ≡ 0) × (r .count ≡ g) × (out' ≡ radioBits R b bits terms g ++ drop g out)
-  pub refused : someWithoutParity R b bits ≡ true → (r .number ≡ 15) × (r .count ≡ 0) × (out' ≡ out)

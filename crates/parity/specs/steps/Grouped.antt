@@ -1,13 +1,12 @@
 -- The parity check by groups of z places: what each entry of a table adds to a row's sum, and the staircase solved from the front.
 use mathlib.Core.Path.{_≡_}
-use mathlib.Core.Bool.{Bool, cond}
+use mathlib.Core.Bool.{cond}
 use mathlib.Core.List.{List}
 use Prim.Native.Nat.{ℕ, suc, _+_, _*_, _%_, _≤_, _<_}
 use lib.Dec.{eqb}
 use lib.ListN.{length, getD}
 use Rattle.bits.specs.Ranges.{sumBelow}
 use Rattle.profile.specs.Record.{entry, empty}
-use Rattle.parity.specs.Matrix.{checks}
 
 -- the bit at a place as it is read without a test, by its lowest digit: that of the mark 2 is 0
 unfoldable pub lowBit : List ℕ → ℕ → ℕ
@@ -40,11 +39,6 @@ pub record Solution (T : List ℕ) (kb m columns z : ℕ) (sys w : List ℕ) : T
   pub front : (p : ℕ) → p < kb * z → getD w p 0 ≡ getD sys p 0
   pub bits : (p : ℕ) → kb * z ≤ p → getD w p 0 < 2
   pub solved : Solved T kb m columns z w
-
--- a solution w that was made of the places of sys, where r says whether it checks
-pub record Attempted (T : List ℕ) (kb m columns z : ℕ) (sys w : List ℕ) (r : Bool) : Type 0 where
-  pub tried : r ≡ checks T m columns z w
-  pub solution : Solution T kb m columns z sys w
 
 -- a table of so many rows and columns that goes with z, within the sizes of document 01
 pub record Shape (T : List ℕ) (rows columns z : ℕ) : Type 0 where

@@ -53,7 +53,7 @@ impl Receiving {
         Receiving {
             a,
             asked: sending.asked,
-            bits: transfer.sent(&sending.block).expect("it has parity bits"),
+            bits: transfer.sent(&sending.block),
             length: sending.block.len() + more,
         }
     }
@@ -195,7 +195,7 @@ fn damage(draft: &Draft, receiving: &mut Receiving, random: &mut Random) {
 fn mix(draft: &Draft, receiving: &mut Receiving, random: &mut Random) {
     let transfer = transfer(draft, receiving);
     let block = octets(transfer.octets, random);
-    let other = transfer.sent(&block).expect("it has parity bits");
+    let other = transfer.sent(&block);
     let r = random.below(transfer.plan.c);
     let stretch = r * transfer.share..(r + 1) * transfer.share;
     receiving.bits[stretch.clone()].copy_from_slice(&other[stretch]);
@@ -246,7 +246,7 @@ fn long(count: usize, random: &mut Random) -> Words {
         order: 2,
         g: count as u64,
     };
-    let sent = Transfer::new(&TOY, 8, asked).and_then(|transfer| transfer.sent(&[random.octet()]));
+    let sent = Transfer::new(&TOY, 8, asked).map(|transfer| transfer.sent(&[random.octet()]));
     let receiving = Receiving {
         a: 8,
         asked,

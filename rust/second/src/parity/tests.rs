@@ -2,8 +2,9 @@
 
 use super::{check, encode, spread_out, table, Code, FILLER};
 use crate::draft::EMPTY;
+use crate::generate::records::good;
 use crate::matrix::Row;
-use crate::numbers::{Number, NO_BIT, NO_PARITY, OUTPUT, PARAMETER, RECORD, STAIRCASE};
+use crate::numbers::{Number, NO_BIT, OUTPUT, PARAMETER, RECORD, STAIRCASE};
 use crate::random::Random;
 use crate::record::{profile, Entry, Profile, Table};
 use crate::samples::{binary, bits, five_sixths, half, no_staircase, not_well_formed, plain, TOY};
@@ -149,7 +150,27 @@ fn all_words_that_check_are_coded_blocks() {
 }
 
 #[test]
-fn a_block_without_parity_bits_is_refused() {
+fn every_accepted_profile_gives_every_block_parity_bits() {
+    // Document 02, CR 6: "With accepted profiles the staircase gives parity bits that always
+    // check." Elimination knows nothing of the staircase.
+    let mut random = Random::new(6);
+    for _ in 0..200 {
+        let record = good(&mut random).octets();
+        let profile = profile(&record).unwrap();
+        for Table { z, .. } in &profile.tables {
+            let code = Code::new(&profile, *z);
+            assert!(code.parity.have_a_solution());
+            let places: Vec<u8> = (0..profile.kb * z).map(|_| random.below(3) as u8).collect();
+            let word = code.coded(&places);
+            let read: Vec<u8> = word.iter().map(|place| place % 2).collect();
+            assert_eq!(word[..places.len()], places);
+            assert_eq!(check(&record, *z as u64, &read), Ok(true));
+        }
+    }
+}
+
+#[test]
+fn without_the_staircase_a_block_may_have_no_parity_bits() {
     // No accepted table is like this one: its parity columns are empty.
     let table = Table {
         z: 2,
@@ -160,10 +181,7 @@ fn a_block_without_parity_bits_is_refused() {
         m: 1,
         tables: vec![table],
     };
-    let code = Code::new(&profile, 2);
-    assert_eq!(code.coded(&[0, 0]), Ok(vec![0, 0, 0, 0]));
-    assert_eq!(code.coded(&[0, FILLER]), Ok(vec![0, 2, 0, 0]));
-    assert_eq!(code.coded(&[0, 1]), Err(NO_PARITY));
+    assert!(!Code::new(&profile, 2).parity.have_a_solution());
 }
 
 #[test]

@@ -40,7 +40,7 @@ returns c =
     let R = now (a .profile) in
     let k = some-fields R (a .plan) (st .pre .0 .ready .some) in
     let code = c .before .before .before .before .before .before .before .code in
-    let same = word-coded R (now (a .bits)) (a .plan) k (st .pre .0 .ready .single) (a .start) (a .own) (st .pre .0 .own-fits) (st .pre .0 .inside) (code .last .1 .1 .1 .1 .1 .0) (code .ensures) (st .pre .2) in
+    let same = word-coded R (now (a .bits)) (a .plan) k (st .pre .0 .ready .single) (a .start) (a .own) (st .pre .0 .own-fits) (st .pre .0 .inside) (code .last .1 .1 .1 .1 .1 .0) (code .ensures) in
     c .before .before .match-filled .ensures ∙ ap (λ (w : List ℕ). matched w (a .e .0) ++ drop (a .e .0) (now (a .out))) same
 
 pub send-block-spec : {M : Type 1} → statement M

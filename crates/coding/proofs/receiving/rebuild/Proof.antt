@@ -145,9 +145,9 @@ returns c = let l = c .before .before .before .before .before .before .before .b
     let told = rw whole at (is .ensures .is) in
     record {
       sent = λ q. absurd (true≢false (sym q));
-      other = λ q parity all.
+      other = λ q all.
           block-other R (a .terms) s (a .plan) h (i .r) (i .at) (e .result .0) (own .result) order (i .inv .2 .stands) mine (own .ensures)
-          (is .result) told (not-true _ (c .if1 .taken)) parity all;
+          (is .result) told (not-true _ (c .if1 .taken)) all;
     }
 
 lay-requires : tie.Need-lay-requires Inv-loop μ-loop
@@ -283,7 +283,7 @@ returns-2 c = let st = c .before .before .before .before .before .before .before
     let told = rw (part-rest (i .at) s) at (over .ensures) in
     record {
       sent = λ q. walk-done R (a .terms) s (a .plan) h (now (a .room)) (i .room) (i .r) (i .start) (i .at) last (i .inv .2) (sym told ∙ not-true _ q);
-      other = λ q parity all.
+      other = λ q all.
           rest-other R (a .terms) s (a .plan) h (now (a .room)) (i .room) (i .r) (i .start) (i .at) last (i .inv .2) (sym told ∙ not-false _ q) all;
     }
 

@@ -1,26 +1,22 @@
 -- `coding::sending::send_blocks` meets its contract. The loop's invariant: the blocks before r stand in front of the output, up to `at`, and
 -- `start` is where block r's own bits begin.
 use mathlib.Core.Path.{_≡_, refl, sym, ap, _∙_}
-use mathlib.Core.Bool.{not}
 use mathlib.Core.List.{List, _++_}
 use Prim.Native.Nat.{ℕ, _-_, _≤_, _<_}
 use native.Mathlib.Omega.{arith}
 use lib.ListN.{length, take, drop, length-drop}
 use denote.Ref.{now}
-use borrow.Author.Tests.{not-false}
 use borrow.Author.Needs.{needs}
 use Rattle.bits.specs.Ranges.{sumBelow}
 use Rattle.bits.specs.declared.count.CodedBits.{CodedBits}
-use Rattle.bits.proofs.Ranges.{none-any}
 use Rattle.cutting.specs.Plan.{blocks}
 use Rattle.cutting.specs.Cutting.{ownStart}
 use Rattle.cutting.proofs.PlanFields.{some-fields}
 use Rattle.coding.specs.Allocation.{share}
-use Rattle.coding.specs.Blocks.{blockHasParity, someWithoutParity}
 use Rattle.coding.specs.Joining.{blockSent, joined}
 use Rattle.coding.proofs.Joining.{Joined, joined-none, joined-more, part-rest}
 use Rattle.coding.proofs.Shares.{shares-fit}
-use Rattle.coding.proofs.Sent.{start-none, start-turn, own-is, own-fits, own-room, parity-is, share-is, length-block, share-fits, share-turn, block-is}
+use Rattle.coding.proofs.Sent.{start-none, start-turn, own-is, own-fits, own-room, share-is, length-block, share-fits, share-turn, block-is}
 use Rattle.coding.proofs.sending.send_blocks.Statement.{statement}
 use Rattle.coding.proofs.sending.send_blocks.Tie as tie
 
@@ -71,7 +67,6 @@ part-send-block-end : tie.Need-part-send-block-end Inv-loop μ-loop
 part-send-block-end c = search needs
 
 send-block-requires : tie.Need-send-block-requires Inv-loop μ-loop
-unfolding someWithoutParity
 send-block-requires c κs =
     let l = c .before .before .before .before in
     let st = l .before .before .before .before .before .before in
@@ -84,8 +79,7 @@ send-block-requires c κs =
     let e = c .before .before .share-of in
     let order : i .r < a .plan .blocks = omega (arith, l) in
     let mine = share-is R (a .plan) k (a .terms) (a .g .0) (i .r) (e .result .0) (ap (λ (x : CodedBits). x .0) (e .ensures)) in
-    let room = share-fits R (a .plan) k (a .terms) (a .g .0) (i .r) (i .at) (e .result .0) order (i .inv .3) mine in
-    let has = parity-is R (a .plan) k s (i .r) (i .start) (own .result) (i .inv .1) (own .ensures) ∙ not-false (blockHasParity R (a .plan .bits) s (i .r)) (none-any (blocks R (a .plan .bits)) (λ j. not (blockHasParity R (a .plan .bits) s j)) (st .pre .2) (i .r) (omega (arith, k .blocks-is))) in (
+    let room = share-fits R (a .plan) k (a .terms) (a .g .0) (i .r) (i .at) (e .result .0) order (i .inv .3) mine in (
       record {
         ready = st .pre .0 .ready;
         own-fits = own-room R (a .plan) k (i .r) (own .result) (own .ensures);
@@ -93,7 +87,6 @@ send-block-requires c κs =
         fits = i .inv .2 ∙ st .pre .1;
       },
       rw part-rest (simp length-drop (omega (arith, room, i .inv .4 .same, st .pre .0 .room))),
-      has,
     )
 
 add-start : tie.Need-add-start Inv-loop μ-loop

@@ -75,7 +75,7 @@ same-length-2 c = search needs
 returns : tie.Need-returns
 returns c =
     let fit = c .before .before .before .before .before .before .before .before .before .before .before .before .before .before .before .before .before .before .before .before .before .before .before .pre .0 in
-    laid-solution _ _ _ _ _ _ _ _ _ _ (fit .shape .z-some) (c .before .before .before .before .before .before .before .before .before .before .before .before .before .before .before .before .before .add-columns .ensures) (sums-all _ _ _ _ _ (search needs) (search needs) (c .before .before .before .before .before .before .before .add-columns2 .ensures))
+    laid-solution _ _ _ _ _ _ _ _ _ _ (c .before .before .before .before .before .before .before .before .before .before .before .before .before .before .before .before .before .add-columns .ensures) (sums-all _ _ _ _ _ (search needs) (search needs) (c .before .before .before .before .before .before .before .add-columns2 .ensures))
     (c .before .before .before .before .before .before .before .before .before .before .before .before .lay-first .ensures) (c .before .before .lay-next .ensures) (fit .wide) (fit .long)
 
 pub solve-spec : {M : Type 1} → statement M
