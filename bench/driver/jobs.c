@@ -61,20 +61,14 @@ static void give_output_of(struct job *job, struct job before, size_t length) {
     job->input = job->inputs[0];
 }
 
-static void add_checksum(size_t width, size_t octets) {
+/* The checksum of packed octets, or of single bits. */
+static void add_checksum(enum kind kind, size_t width, size_t count) {
+    int single = kind == CRC_OF_BITS;
     char name[48];
-    snprintf(name, sizeof name, "crc%zu %zu octets", width, octets);
-    struct job *job = add(CRC, name);
+    snprintf(name, sizeof name, "crc%zu %zu %s", width, count, single ? "bits" : "octets");
+    struct job *job = add(kind, name);
     job->z = width;
-    give_input(job, octets, 255);
-}
-
-static void add_checksum_of_bits(size_t width, size_t bits) {
-    char name[48];
-    snprintf(name, sizeof name, "crc%zu %zu bits", width, bits);
-    struct job *job = add(CRC_OF_BITS, name);
-    job->z = width;
-    give_input(job, bits, 1);
+    give_input(job, count, single ? 1 : 255);
 }
 
 /* Matching a coded block of 1,944 places, of which 120 in a row are marked. */
@@ -178,10 +172,10 @@ static void add_growing(void) {
 
 void make_jobs(const char *shelf) {
     read_shelf(shelf);
-    add_checksum(24, 2048);
-    add_checksum(16, 2048);
-    add_checksum(24, 56);
-    add_checksum_of_bits(24, 16384);
+    add_checksum(CRC, 24, 2048);
+    add_checksum(CRC, 16, 2048);
+    add_checksum(CRC, 24, 56);
+    add_checksum(CRC_OF_BITS, 24, 16384);
     add_matching(1824);
     add_matching(65536);
     add_record(56);

@@ -6,16 +6,22 @@ use lib.ListN.{length, drop}
 use Rattle.bits.specs.declared.count.Terms.{Terms}
 use Rattle.bits.proofs.Answers.{when-done, when-refused}
 use Rattle.cutting.specs.Plan.{blockBits}
+use Rattle.cutting.specs.Promises.{planNumber}
 use Rattle.cutting.specs.Transport.{transport}
 use Rattle.coding.specs.Joining.{radioBits}
 use Rattle.coding.specs.Promises.{sendNumber, Sent}
 use Rattle.coding.specs.steps.Numbers.{requestNumber}
+use Rattle.coding.proofs.RequestNumber.{request-passed}
 
 module _ (R block : List ℕ) (terms : Terms) (g : ℕ) where
   -- what the request is refused with is what sending is refused with
   pub request-is : (room : ℕ) → requestNumber R (length block) terms g g room ≡ sendNumber R block terms g room
   unfolding requestNumber sendNumber
   request-is room = refl
+
+  -- and a block that it is not refused for can be cut
+  pub send-planned : (room : ℕ) → sendNumber R block terms g room ≡ 0 → planNumber R (length block) ≡ 0
+  send-planned room e = request-passed R (length block) terms g g room (request-is room ∙ e) .0
 
   module _ (out : List ℕ) where
     abbrev sent : List ℕ

@@ -4,7 +4,7 @@ use mathlib.Core.List.{List}
 use Prim.Native.Nat.{ℕ, _+_, _*_, _≤_, _<_}
 use native.Mathlib.Nat.{add-mul, le-mul-of-pos-right, mul-comm}
 use native.Mathlib.Omega.{arith}
-use lib.ListN.{length, getD, take, drop}
+use lib.ListN.{length, take, drop}
 use Rattle.bits.specs.Bits.{AreBits, withFiller}
 use Rattle.bits.proofs.Lists.{bits-take, bits-drop, length-part}
 use Rattle.bits.proofs.Filler.{length-filled}
@@ -39,12 +39,6 @@ module _ (R : List ℕ) (p : Plan) (k : PlanFields R p) where
       let more : p .z ≤ p .z * rows R = le-mul-of-pos-right (p .z) (omega (arith, k .cut .known .rows-low)) in
       let wide : columns R * p .z ≡ (kb R + rows R) * p .z = ap (λ (n : ℕ). n * p .z) (columns-is R) in
       omega (arith, places-product, wide, add-mul (kb R) (rows R) (p .z), mul-comm (p .z) (rows R), more, shape-here .z-some)
-
--- a word solved behind some places is one solved behind equal ones
-pub solution-front : (T : List ℕ) (kb' m' columns' z' : ℕ) (sys u w : List ℕ) → ((p : ℕ) → p < kb' * z' → getD u p 0 ≡ getD sys p 0)
-    → Solution T kb' m' columns' z' u w → Solution T kb' m' columns' z' sys w
-solution-front T kb' m' columns' z' sys u w e s =
-    record { size = s .size; front = λ p h. s .front p h ∙ e p h; bits = s .bits; solved = s .solved }
 
 -- ---- the coded word of one block
 

@@ -15,9 +15,10 @@ use Rattle.bits.proofs.Answers.{when-done}
 use Rattle.bits.proofs.Ranges.{below-or, last-or}
 use Rattle.profile.specs.Record.{kb, t, z}
 use Rattle.cutting.specs.Plan.{blockBits, blocks, sizeIndex}
-use Rattle.cutting.specs.Promises.{planConditions, planNumber}
+use Rattle.cutting.specs.Promises.{planNumber}
 use Rattle.cutting.proofs.Plans.{plan-cut}
 use Rattle.coding.specs.Promises.{sendNumber, Sent, Received}
+use Rattle.coding.proofs.Answers.{send-planned}
 use Rattle.coding.proofs.RoundTrip.{sent-front}
 use Rattle.shelf.specs.Shelf.{privateShelf}
 use Rattle.shelf.specs.Lookup.{lookupNumber, lookupRecord}
@@ -26,20 +27,14 @@ use Rattle.shelf.specs.Isolation.{Own, Public, AgreeFor, AlikeFor}
 use Rattle.shelf.proofs.Agreement.{hosted-send-agree, hosted-receive-agree}
 use Rattle.shelf.proofs.Hosted.{looked-up, hosted-promised}
 use Rattle.shelf.proofs.Isolation.{same-number, same-record, same-place, same-promise, public-none, served}
-use Rattle.demands.specs.Numbers.{NoneHolds}
 use Rattle.demands.specs.Steps.{Steps}
-use Rattle.demands.proofs.Order.{none-answered}
-use Rattle.demands.proofs.Demand1.{send-number}
 use Rattle.demands.proofs.Steps.{steps, steps-only}
 
 -- ---- "Sending gives bit for bit what 5G.212 v2.3 defines, as document 01 states it"
 
 module _ {R block : List ℕ} {terms : Terms} {g : ℕ} {out : List ℕ} {r : Written} {o : List ℕ} (s : Sent R block terms g out r o) (done : r .number ≡ 0) where
   passed : planNumber R (length block) ≡ 0
-  unfolding NoneHolds planNumber
-  passed =
-      let h = send-number s .only-done done in
-      none-answered (planConditions R (length block)) (h .0, (h .1 .0, (h .1 .1 .0, (h .1 .1 .1 .1 .0, tt))))
+  passed = send-planned R block terms g (length out) (sym (s .number) ∙ done)
 
   -- where sending answers 0 (when it does is in Demand1), G octets are written, and they follow the six steps
   pub sends : (r .count ≡ g) × (Steps R block terms g (take g o))

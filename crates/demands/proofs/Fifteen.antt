@@ -17,7 +17,7 @@ use Rattle.profile.specs.Staircase.{staircase}
 use Rattle.profile.specs.Promises.{judged}
 use Rattle.profile.proofs.Stairs.{staircase-is}
 use Rattle.cutting.specs.Plan.{blockBits, blocks, sizeIndex}
-use Rattle.cutting.specs.Promises.{planConditions, planNumber}
+use Rattle.cutting.specs.Promises.{planNumber}
 use Rattle.cutting.specs.Transport.{transport}
 use Rattle.cutting.specs.Cutting.{systematic}
 use Rattle.parity.specs.Coded.{hasParity}
@@ -26,10 +26,9 @@ use Rattle.parity.proofs.Answers.{block-taken}
 use Rattle.parity.proofs.Coded.{has-parity}
 use Rattle.parity.proofs.Ready.{ready}
 use Rattle.coding.specs.Promises.{sendConditions, sendNumber}
+use Rattle.coding.proofs.Answers.{send-planned}
 use Rattle.shelf.specs.Lookup.{lookupConditions, lookupRecord}
-use Rattle.demands.specs.Numbers.{NoneHolds}
 use Rattle.demands.specs.Fifteen.{blockHasParity, someWithoutParity, sendWithFifteen, hostedWithFifteen, codeWithFifteen}
-use Rattle.demands.proofs.Order.{answers, none-answered}
 use Rattle.demands.proofs.Steps.{sys-size, stairs}
 
 -- ---- "With accepted profiles the staircase gives parity bits that always check"
@@ -65,12 +64,10 @@ last-idle l r n c idle =
     (λ some. first-part l ((n, c) ∷ []) some)
 
 pub send-the-same : (R block : List ℕ) (terms : Terms) (g lent : ℕ) → answered (sendWithFifteen R block terms g lent) ≡ sendNumber R block terms g lent
-unfolding sendNumber NoneHolds planNumber Refusals
+unfolding sendNumber Refusals
 send-the-same R block terms g lent =
     last-idle (sendConditions R block terms g lent) tt 15 (someWithoutParity R block)
-    (λ e.
-    let h = answers (sendConditions R block terms g lent) tt (sym e) .only-done refl in
-    fifteen-never R block (none-answered (planConditions R (length block)) (h .0, (h .1 .0, (h .1 .1 .0, (h .1 .1 .1 .1 .0, tt))))))
+    (λ e. fifteen-never R block (send-planned R block terms g lent e))
 
 pub hosted-the-same : (private public : List ℕ) (t p : ℕ) (block : List ℕ) (terms : Terms) (g lent : ℕ)
     → answered (hostedWithFifteen private public t p block terms g lent)

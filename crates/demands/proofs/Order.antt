@@ -21,7 +21,7 @@ answered-first [] n some e = absurd (some (sym e))
 answered-first ((k, true) ∷ l) n some e = inl (sym e, refl)
 answered-first ((k, false) ∷ l) n some e = inr (refl, answered-first l n some e)
 
-pub none-answered : (l : List (ℕ × Bool)) → NoneHolds l → answered l ≡ 0
+none-answered : (l : List (ℕ × Bool)) → NoneHolds l → answered l ≡ 0
 unfolding NoneHolds answered
 none-answered [] h = refl
 none-answered ((k, c) ∷ l) h = rw (h .0) (none-answered l (h .1))

@@ -132,13 +132,7 @@ module _ (T : List ℕ) (rows columns z : ℕ) (sys : List ℕ) where
             solved = checked-solved T kb m rows columns z w S e;
           })
 
--- a word that was solved behind the places
-pub solution-places : {T : List ℕ} {kb m columns z : ℕ} {sys u w : List ℕ} → length sys ≡ kb * z → (rest : List ℕ) → u ≡ sys ++ rest
+-- a word solved behind some places is one solved behind equal ones
+pub solution-front : {T : List ℕ} {kb m columns z : ℕ} {sys u w : List ℕ} → ((p : ℕ) → p < kb * z → getD u p 0 ≡ getD sys p 0)
     → Solution T kb m columns z u w → Solution T kb m columns z sys w
-solution-places {sys = sys} size rest e h =
-    record {
-      size = h .size;
-      front = λ p l. h .front p l ∙ ap (λ (s : List ℕ). getD s p 0) e ∙ List·getD-append sys rest 0 p (omega arith);
-      bits = h .bits;
-      solved = h .solved;
-    }
+solution-front e h = record { size = h .size; front = λ p l. h .front p l ∙ e p l; bits = h .bits; solved = h .solved }

@@ -1,13 +1,15 @@
 -- `parity::code_in` meets its contract.
-use mathlib.Core.Path.{_≡_, ap}
-use Prim.Native.Nat.{ℕ, _+_, _*_}
+use mathlib.Core.Path.{_≡_, ap, _∙_}
+use mathlib.Core.List.{List}
+use Prim.Native.Nat.{ℕ, _+_, _*_, _<_}
 use native.Mathlib.Nat.{add-mul}
 use native.Mathlib.Omega.{arith}
+use lib.ListN.{length, getD, List·getD-append}
 use denote.Ref.{now}
 use borrow.Author.Needs.{needs}
 use Rattle.profile.specs.Record.{kb, rows, columns}
 use Rattle.profile.proofs.Shape.{columns-is}
-use Rattle.parity.proofs.Coded.{solution-places}
+use Rattle.parity.proofs.Coded.{solution-front}
 use Rattle.parity.proofs.Ready.{ready, codable-read, table-read, coded-read}
 use Rattle.parity.proofs.code_in.Statement.{statement}
 use Rattle.parity.proofs.code_in.Tie as tie
@@ -58,7 +60,14 @@ returns c =
     let c-is = c .before .before .before .before .before .before .before .before .before .before .columns .ensures .0 in
     let table-is = table-read (now (st .args .profile)) (st .args .z) _ _ (c .before .before .before .before .before .before .before .before .table .ensures) (c .before .before .before .before .before .before .before .before .before .index-of .ensures) in
     let copy = c .before .before .before .before .before .before .copy .ensures in
-    coded-read _ _ _ _ _ table-is c-is _ k-is n-is _ (st .pre .0) _ (solution-places (rw k-is (st .pre .0 .long)) _ copy (c .before .before .code .ensures))
+    let places = now (st .args .places) in
+    let long = st .pre .0 .long in
+    coded-read _ _ _ _ _ table-is c-is _ k-is n-is _ (st .pre .0) _
+    (solution-front
+    (λ p l.
+    let inside : p < length places = omega (arith, long, ap (λ (n : ℕ). n * st .args .z) k-is) in
+    ap (λ (s : List ℕ). getD s p 0) copy ∙ List·getD-append places _ 0 p inside)
+    (c .before .before .code .ensures))
 
 pub code-in-spec : {M : Type 1} → statement M
 code-in-spec =

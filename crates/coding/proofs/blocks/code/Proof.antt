@@ -3,9 +3,9 @@ use mathlib.Core.Path.{_∙_}
 use native.Mathlib.Omega.{arith}
 use denote.Ref.{now}
 use borrow.Author.Needs.{needs}
-use Rattle.profile.specs.Record.{kb, m, columns, table}
 use Rattle.cutting.proofs.PlanFields.{some-fields, places-product}
-use Rattle.coding.proofs.PlanFields.{word-room, solution-front}
+use Rattle.parity.proofs.Coded.{solution-front}
+use Rattle.coding.proofs.PlanFields.{word-room}
 use Rattle.coding.proofs.blocks.code.Statement.{statement}
 use Rattle.coding.proofs.blocks.code.Tie as tie
 
@@ -36,7 +36,7 @@ returns c =
     let laid = c .before .before .before .before .before .before .lay-block in
     let solve = c .before .before .solve in
     let product = places-product R (a .plan) k in
-    solution-front (table R (a .plan .index)) (kb R) (m R) (columns R) (a .plan .z) _ (laid .last .1 .1 .1 .1 .0) _ (λ p l. laid .ensures .front p (omega arith)) (solve .ensures)
+    solution-front (λ p l. laid .ensures .front p (omega arith)) (solve .ensures)
 
 pub code-spec : {M : Type 1} → statement M
 code-spec = tie.close (tie.spec lay-block-requires solve-requires same-length returns)
