@@ -75,9 +75,26 @@ impl Plan {
         self.bits / self.blocks + (r < self.bits % self.blocks) as usize
     }
 
-    /// The radio bits of each block.
-    pub fn share(&self, terms: Terms) -> usize {
-        terms.symbols() / self.blocks * (terms.nl * terms.qm)
+    /// The radio bits of the blocks: the symbol places that do not go round evenly are the first blocks'.
+    pub fn shares(&self, terms: Terms) -> Shares {
+        let place = terms.nl * terms.qm;
+        let symbols = terms.symbols();
+        Shares { longer: symbols % self.blocks, place, least: symbols / self.blocks * place }
+    }
+}
+
+/// The radio bits of each block; together they are G.
+#[derive(Clone, Copy)]
+pub struct Shares {
+    longer: usize,
+    place: usize,
+    least: usize,
+}
+
+impl Shares {
+    /// The radio bits of block r.
+    pub fn of(self, r: usize) -> usize {
+        self.least + (r < self.longer) as usize * self.place
     }
 }
 

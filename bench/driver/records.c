@@ -79,12 +79,16 @@ u8 *filled(int is_private, size_t entries, struct record record, size_t *length)
     return octets;
 }
 
+/* Of two bits each. */
+static size_t symbol_places(size_t bits) { return (bits + 1) / 2; }
+
+/* The blocks that carry a bit more than the others are the first, and so are those that are given a symbol place more. */
 size_t least_g(struct record record, size_t octets) {
     size_t kb = number_at(record.octets, 0), m = number_at(record.octets, 2), sizes = number_at(record.octets, 4);
     size_t bits = 8 * octets + 24, most = kb * number_at(record.octets, 6 + 4 * (sizes - 1));
-    size_t blocks = (bits + most - 1) / most, own = (bits + blocks - 1) / blocks, index = 0;
-    while (own > kb * number_at(record.octets, 6 + 4 * index))
+    size_t blocks = (bits + most - 1) / most, own = bits / blocks, longer = bits % blocks, index = 0;
+    while (own + (longer > 0) > kb * number_at(record.octets, 6 + 4 * index))
         index++;
     size_t coded = own + m * number_at(record.octets, 6 + 4 * index);
-    return (coded + 1) / 2 * 2 * blocks;
+    return 2 * (longer * symbol_places(coded + 1) + (blocks - longer) * symbol_places(coded));
 }

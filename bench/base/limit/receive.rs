@@ -2,20 +2,15 @@
 
 use super::bits::{bits_at, own_group, pack};
 use super::checksum::by_eight_octets;
-use crate::plain::octets::all_zero;
 use crate::plain::parity::Matrix;
 use crate::plain::receive::planned;
-use crate::record::{Plan, Terms};
+use crate::record::{Plan, Shares, Terms};
 
 pub fn receive(record: &[u8], a: usize, terms: Terms, bits: &[u8], out: &mut [u8]) -> Result<(), u32> {
     let (profile, plan, octets) = planned(record, a, terms, bits, out.len())?;
-    let share = plan.share(terms);
     let mut room = [0; 8 * 2048 + 24];
     let own = &mut room[..plan.bits];
-    take_all(Matrix::of(&profile, plan.index, plan.z), &plan, share, bits, own)?;
-    if !all_zero(&bits[share * plan.blocks..]) {
-        return Err(14);
-    }
+    take_all(Matrix::of(&profile, plan.index, plan.z), &plan, plan.shares(terms), bits, own)?;
     let mut room = [0; 2048 + 3];
     let block = &mut room[..octets + 3];
     pack(own, block);
@@ -28,11 +23,14 @@ pub fn receive(record: &[u8], a: usize, terms: Terms, bits: &[u8], out: &mut [u8
 }
 
 /// The own bits of all blocks, or 14.
-fn take_all(matrix: Matrix, plan: &Plan, share: usize, bits: &[u8], own: &mut [u8]) -> Result<(), u32> {
+fn take_all(matrix: Matrix, plan: &Plan, shares: Shares, bits: &[u8], own: &mut [u8]) -> Result<(), u32> {
     let mut packed = [0; 324 + 32];
     let mut start = 0;
-    for (r, sent) in bits.chunks_exact(share).take(plan.blocks).enumerate() {
+    let mut rest = bits;
+    for r in 0..plan.blocks {
         let count = plan.own(r);
+        let (sent, after) = rest.split_at(shares.of(r));
+        rest = after;
         let (once, again) = sent.split_at(count + matrix.m * matrix.z);
         if again != &sent[..again.len()] {
             return Err(14);

@@ -11,18 +11,19 @@ pub fn send(record: &[u8], block: &[u8], terms: Terms, out: &mut [u8]) -> Result
     let mut carried = [0; 2051 + 32];
     carry(block, &mut carried);
     let matrix = Matrix::of(&profile, plan.index, plan.z);
-    let share = plan.share(terms);
+    let shares = plan.shares(terms);
     let mut sent = [0; WORD + 16];
     let mut start = 0;
-    for (r, out) in out.chunks_exact_mut(share).take(plan.blocks).enumerate() {
-        let own = plan.own(r);
+    let mut at = 0;
+    for r in 0..plan.blocks {
+        let (own, share) = (plan.own(r), shares.of(r));
         lay(matrix, &carried, start, own, &mut sent);
-        for run in out.chunks_mut(own + matrix.m * matrix.z) {
+        for run in out[at..at + share].chunks_mut(own + matrix.m * matrix.z) {
             run.copy_from_slice(&sent[..run.len()]);
         }
         start += own;
+        at += share;
     }
-    out[share * plan.blocks..terms.g].fill(0);
     Ok(())
 }
 

@@ -1,22 +1,18 @@
-//! Receiving: every repetition, every parity bit, every place left over and the checksum are tested.
+//! Receiving: every repetition, every parity bit and the checksum are tested.
 
 use super::checksum::by_octets;
 use super::judge::judge;
-use super::octets::{all_zero, pack, some_over};
+use super::octets::{pack, some_over};
 use super::parity::{Matrix, WORD};
-use crate::record::{accepted, Plan, Profile, Terms};
+use crate::record::{accepted, Plan, Profile, Shares, Terms};
 
 const BITS: usize = 8 * 2048 + 24;
 
 pub fn receive(record: &[u8], a: usize, terms: Terms, bits: &[u8], out: &mut [u8]) -> Result<(), u32> {
     let (profile, plan, octets) = planned(record, a, terms, bits, out.len())?;
-    let share = plan.share(terms);
     let mut room = [0; BITS];
     let own = &mut room[..plan.bits];
-    take_all(&profile, &plan, share, bits, own)?;
-    if !all_zero(&bits[share * plan.blocks..]) {
-        return Err(14);
-    }
+    take_all(&profile, &plan, plan.shares(terms), bits, own)?;
     let mut block = [0; 2048 + 3];
     pack(own, &mut block[..octets + 3]);
     attached(&block[..octets + 3], out)
@@ -41,21 +37,26 @@ pub fn planned<'a>(
     if some_over(1, bits) {
         return Err(12);
     }
-    // The first block carries as many bits as any.
-    if plan.share(terms) < plan.own(0) + profile.m * plan.z {
+    // Shares never rise, so the last block that carries the most bits is the first to be short, or the last of all is.
+    let shares = plan.shares(terms);
+    let short = |r: usize| shares.of(r) < plan.own(r) + profile.m * plan.z;
+    if short((plan.bits - 1) % plan.blocks) || short(plan.blocks - 1) {
         return Err(13);
     }
     Ok((profile, plan, octets))
 }
 
 /// The own bits of all blocks, or 14.
-fn take_all(profile: &Profile, plan: &Plan, share: usize, bits: &[u8], own: &mut [u8]) -> Result<(), u32> {
+fn take_all(profile: &Profile, plan: &Plan, shares: Shares, bits: &[u8], own: &mut [u8]) -> Result<(), u32> {
     let matrix = Matrix::of(profile, plan.index, plan.z);
     let mut room = [0; WORD];
     let word = &mut room[..profile.coded(plan.z)];
     let mut start = 0;
-    for (r, sent) in bits.chunks_exact(share).take(plan.blocks).enumerate() {
+    let mut rest = bits;
+    for r in 0..plan.blocks {
         let count = plan.own(r);
+        let (sent, after) = rest.split_at(shares.of(r));
+        rest = after;
         if !repeats(sent, count + word.len() - plan.places) {
             return Err(14);
         }

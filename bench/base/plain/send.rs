@@ -15,16 +15,17 @@ pub fn send(record: &[u8], block: &[u8], terms: Terms, out: &mut [u8]) -> Result
     let matrix = Matrix::of(&profile, plan.index, plan.z);
     let mut room = [0; WORD];
     let word = &mut room[..profile.coded(plan.z)];
-    let share = plan.share(terms);
+    let shares = plan.shares(terms);
     let mut start = 0;
-    for (r, out) in out.chunks_exact_mut(share).take(plan.blocks).enumerate() {
-        let own = plan.own(r);
+    let mut at = 0;
+    for r in 0..plan.blocks {
+        let (own, share) = (plan.own(r), shares.of(r));
         lay(&bits[start..start + own], plan.places, word);
         matrix.code(word);
-        matched(word, own, plan.places, out);
+        matched(word, own, plan.places, &mut out[at..at + share]);
         start += own;
+        at += share;
     }
-    out[share * plan.blocks..terms.g].fill(0);
     Ok(())
 }
 

@@ -5,7 +5,7 @@ use mathlib.Core.Bool.{Bool, true, false, not, _&&_, _||_}
 use mathlib.Core.List.{List, [], _∷_}
 use mathlib.Core.Logic.{_⊎_, inl, inr}
 use Prim.Native.Nat.{ℕ, suc, _*_, _/_, _%_, _≤_, _<_}
-use native.Mathlib.Nat.{mul-comm, mul-mod-right, mul-div-cancel-left, div-lt-iff-lt-mul, le-div-iff-mul-le, div-add-mod}
+use native.Mathlib.Nat.{mul-comm, mul-mod-right, mod-lt, mul-div-cancel-left, div-lt-iff-lt-mul, le-div-iff-mul-le, div-add-mod}
 use native.Mathlib.Omega.{arith}
 use borrow.Author.Tests.{eqb-true, eq-eqb, ltb-false, le-ltb, le-leb, not-false}
 use lib.Dec.{eqb, ltb, lit<}
@@ -15,18 +15,19 @@ use Rattle.bits.specs.Numbers.{answered}
 use Rattle.bits.specs.Ranges.{firstBelow, within}
 use Rattle.bits.specs.Counts.{usable, placeBits}
 use Rattle.bits.specs.declared.count.Terms.{Terms}
-use Rattle.bits.proofs.Answers.{applies, passes, passed}
+use Rattle.bits.proofs.Answers.{applies, passes, passed, when-done, when-refused}
 use Rattle.bits.proofs.Ranges.{neither, equal-or, none-any, First, first-some}
 use Rattle.profile.proofs.Answers.{judged-passed}
 use Rattle.cutting.specs.Plan.{blockBits, blocks}
 use Rattle.cutting.proofs.Plans.{plan-passed}
-use Rattle.coding.specs.Allocation.{misallocated}
+use Rattle.coding.specs.Allocation.{misallocated, symbolPlaces, spare}
 use Rattle.coding.specs.Receiving.{someSentAs, someWithoutRoom}
 use Rattle.coding.specs.Promises.{tooFewPlaces, notOctets, receiveNumber}
 use Rattle.coding.specs.steps.Numbers.{cutNumber}
 use Rattle.coding.proofs.RequestNumber.{cut-passed}
 use Rattle.advice.specs.Least.{hasRoom, allocations, roomAt, someRoom, leastBits}
-use Rattle.advice.specs.Promises.{leastNumber}
+use Rattle.advice.specs.Promises.{leastNumber, LeastRoom}
+use Rattle.advice.specs.declared.Least.{Least}
 use Rattle.advice.proofs.Numbers.{least-first, least-last, right}
 
 -- ---- what the number says
@@ -130,6 +131,19 @@ module _ (R : List ℕ) (octets : ℕ) (terms : Terms) where
         let few : k * (placeBits terms) ≤ 65536 = le-div-iff-mul-le some .0 (omega (arith, first .below)) in
         let most : placeBits terms * k ≤ 65536 = omega (arith, mul-comm k (placeBits terms)) in
         rw (second, le-ltb 65536 (placeBits terms * k) most, eq-eqb (placeBits terms * k % placeBits terms) 0 (mul-mod-right (placeBits terms) k))
+
+  -- ---- there are others than the blocks with the larger share
+
+  pub larger-fewer : (r : Least) → LeastRoom R octets terms r → r .larger ≤ r .blocks
+  unfolding spare
+  larger-fewer r h =
+      let c = blocks R (blockBits octets) in
+      let n = leastNumber R octets terms in
+      equal-or n 0
+      (λ e.
+      let left = mod-lt (symbolPlaces terms (leastBits R octets terms) .0) {m = c} (right R octets terms (least-passed e .0) .blocks) in
+      omega (arith, h .larger, h .blocks, when-done n (symbolPlaces terms (leastBits R octets terms) .0 % c) 0 e, when-done n c 0 e, left))
+      (λ d. omega (arith, h .larger, when-refused n (symbolPlaces terms (leastBits R octets terms) .0 % c) 0 d))
 
   -- ---- where there is none
 

@@ -1,29 +1,30 @@
 -- The number that is answered, by its tests, and what goes with it.
-use mathlib.Core.Path.{_≡_, sym, ap, _∙_}
+use mathlib.Core.Path.{_≡_, sym, ap, ap₂, _∙_}
 use mathlib.Core.Bool.{Bool, not}
 use mathlib.Core.List.{List, [], _∷_}
-use Prim.Native.Nat.{ℕ, _*_, _/_, _≤_, _<_}
+use Prim.Native.Nat.{ℕ, _-_, _*_, _/_, _%_, _≤_, _<_}
 use native.Mathlib.Omega.{arith}
 use lib.Dec.{ltb}
 use Rattle.bits.specs.Numbers.{answered, whenDone}
 use Rattle.bits.specs.Ranges.{within}
-use Rattle.bits.specs.Counts.{ceil, placeBits}
+use Rattle.bits.specs.Counts.{placeBits}
+use Rattle.bits.specs.declared.count.CodedBits.{CodedBits}
 use Rattle.bits.specs.declared.count.Terms.{Terms}
 use Rattle.bits.proofs.Answers.{applies, passes, none-left, first-part, Refusals, last-part, when-done, when-refused}
 use Rattle.profile.specs.Record.{wellFormed}
 use Rattle.profile.specs.Staircase.{staircases}
 use Rattle.cutting.specs.Plan.{blockBits, blocks}
 use Rattle.cutting.proofs.Plans.{Cut, plan-cut}
-use Rattle.coding.specs.Allocation.{misallocated, share}
+use Rattle.coding.specs.Allocation.{misallocated, spare, share}
 use Rattle.coding.specs.steps.Shares.{Allocated}
 use Rattle.coding.specs.steps.Numbers.{cutNumber}
 use Rattle.coding.proofs.Shares.{allocated}
 use Rattle.coding.proofs.RequestNumber.{cut-passed}
-use Rattle.advice.specs.Least.{someRoom}
+use Rattle.advice.specs.Least.{someRoom, leastBits}
 use Rattle.advice.specs.Promises.{leastNumber, LeastRoom}
 use Rattle.advice.specs.declared.Least.{Least}
-use Rattle.advice.specs.steps.Counting.{refusal, mostSendable}
-use Rattle.advice.proofs.Room.{some-room, no-room, least-is, share-is}
+use Rattle.advice.specs.steps.Counting.{refusal, placesForAll}
+use Rattle.advice.proofs.Room.{some-room, no-room, least-is, spare-is}
 
 module _ (R : List ℕ) (octets : ℕ) (terms : Terms) where
   abbrev tests : List (ℕ × Bool)
@@ -43,7 +44,7 @@ module _ (R : List ℕ) (octets : ℕ) (terms : Terms) where
   unfolding refusal
   told-refused n found h r e =
       let other : (v : ℕ) → 0 ≡ whenDone (leastNumber R octets terms) v 0 = λ v. sym (when-refused (leastNumber R octets terms) v 0 (λ z. h (found ∙ z))) in
-      rw e (record { number = found; bits = other _; share = other _; blocks = other _ })
+      rw e (record { number = found; bits = other _; blocks = other _; larger = other _; first = other _; last = other _ })
 
   pub first-refused : (n : ℕ) → n ≡ cutNumber R octets terms 0 → (n ≡ 0 → ⊥) → (r : Least) → r ≡ refusal n → LeastRoom R octets terms r
   first-refused n found h = told-refused n (found ∙ sym (least-first (λ z. h (found ∙ z)))) h
@@ -56,24 +57,27 @@ module _ (R : List ℕ) (octets : ℕ) (terms : Terms) where
     right = allocated terms 0 (blocks R (blockBits octets)) (cut-passed R octets terms 0 e .1) (cut .some)
 
     abbrev all : ℕ
-    all = blocks R (blockBits octets) * ceil (mostSendable R octets) (placeBits terms)
+    all = placesForAll R (blockBits octets) terms
 
     pub last-refused : 65536 / placeBits terms < all → (r : Least) → r ≡ refusal 13 → LeastRoom R octets terms r
     last-refused h =
         told-refused 13 (sym (least-last e ∙ applies 13 [] (ap not (no-room R octets cut terms (right .usable .some) h)))) (λ q. omega arith)
 
     pub last-done : all ≤ 65536 / placeBits terms → (r : Least) → r .number ≡ 0 → r .bits .0 ≡ placeBits terms * all → r .blocks ≡ blocks R (blockBits octets)
-        → r .share .0 ≡ placeBits terms * ceil (mostSendable R octets) (placeBits terms) → LeastRoom R octets terms r
-    last-done h r number bits count part =
+        → r .larger ≡ all % blocks R (blockBits octets)
+        → r .first ≡ share terms (r .bits .0) (r .blocks) 0 → r .last ≡ share terms (r .bits .0) (r .blocks) (r .blocks - 1) → LeastRoom R octets terms r
+    last-done h r number bits count more first last =
         let some = right .usable .some in
         let n : leastNumber R octets terms ≡ 0 = least-last e ∙ passes 13 [] (ap not (some-room R octets cut terms some h)) ∙ none-left in
         let done : (v : ℕ) → v ≡ whenDone (leastNumber R octets terms) v 0 = λ v. sym (when-done (leastNumber R octets terms) v 0 n) in
         let least = least-is R octets cut terms some h in
+        let c = blocks R (blockBits octets) in
+        let all-bits : r .bits .0 ≡ leastBits R octets terms = bits ∙ sym least in
         record {
           number = number ∙ sym n;
-          bits = bits ∙ sym least ∙ done _;
-          share =
-              part ∙ sym (share-is R octets cut terms some)
-              ∙ ap (λ (g : ℕ). share terms g (blocks R (blockBits octets)) 0 .0) (sym least) ∙ done _;
+          bits = all-bits ∙ done _;
           blocks = count ∙ done _;
+          larger = more ∙ sym (spare-is R octets cut terms some) ∙ ap (λ (g : ℕ). spare terms g c .0) (sym least) ∙ done _;
+          first = ap (λ (x : CodedBits). x .0) first ∙ ap₂ (λ (g n : ℕ). share terms g n 0 .0) all-bits count ∙ done _;
+          last = ap (λ (x : CodedBits). x .0) last ∙ ap₂ (λ (g n : ℕ). share terms g n (n - 1) .0) all-bits count ∙ done _;
         }

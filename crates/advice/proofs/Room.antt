@@ -1,35 +1,55 @@
--- Which allocations have room: with N the first block's, which is the largest, the k-th has room where k is at least C·ceil(N / (N_L·Q_m)).
-use mathlib.Core.Path.{_≡_, refl, ap, _∙_}
+-- Which allocations have room: the one with the symbol places that all blocks' N take together, and none with fewer.
+use mathlib.Core.Path.{_≡_, refl, sym, ap, _∙_}
 use mathlib.Core.Bool.{Bool, true, false, not, _&&_}
 use mathlib.Core.List.{List}
 use Prim.Native.Nat.{ℕ, suc, _+_, _*_, _/_, _%_, _≤_, _<_}
-use native.Mathlib.Nat.{add-mul, mul-comm, mul-one, mul-le-mul-left, mul-div-cancel-left, le-div-iff-mul-le}
+use native.Mathlib.Nat.{add-mul, mul-comm, mul-one, mul-le-mul-left, one-mul, mul-div-cancel-left, mod-lt}
 use native.Mathlib.Omega.{arith}
-use borrow.Author.Tests.{lt-ltb, le-ltb}
+use borrow.Author.Tests.{ltb-false, lt-ltb, le-ltb}
 use lib.Dec.{ltb}
-use Rattle.bits.specs.Counts.{ceil, symbolPlacesOf, codedBitsOf, placeBits}
+use Rattle.bits.specs.Counts.{ceil, symbolPlacesOf, placeBits}
+use Rattle.bits.specs.Ranges.{anyBelow, sumBelow}
 use Rattle.bits.specs.declared.count.Terms.{Terms}
-use Rattle.bits.proofs.Ranges.{below-or, any-of, any-none, first-is}
-use Rattle.bits.proofs.Rounding.{ceil-covers, ceil-least, ceil-some, floor-ceil}
+use Rattle.bits.proofs.Ranges.{below-or, equal-or, any-of, any-none, none-any, first-is}
+use Rattle.bits.proofs.Rounding.{ceil-covers, ceil-least, ceil-some}
+use Rattle.bits.proofs.Sums.{sum-same, sum-le, sum-const}
 use Rattle.profile.specs.Record.{kb, z, rows}
 use Rattle.profile.proofs.Shape.{columns-is}
 use Rattle.cutting.specs.Plan.{blockBits, blocks, ownBits, sizeIndex, filler}
 use Rattle.cutting.proofs.Plans.{Cut}
+use Rattle.cutting.proofs.Rounding.{below, own-parts, own-sum, parts-sum, parts-own}
 use Rattle.coding.specs.Blocks.{sendable}
-use Rattle.coding.specs.Allocation.{symbolPlaces, share}
+use Rattle.coding.specs.Allocation.{symbolPlaces, spare, share}
 use Rattle.coding.specs.Receiving.{someWithoutRoom}
 use Rattle.coding.specs.Promises.{tooFewPlaces}
+use Rattle.coding.proofs.Shares.{share-places}
 use Rattle.advice.specs.Least.{hasRoom, allocations, roomAt, someRoom, leastBits}
-use Rattle.advice.specs.steps.Counting.{mostSendable}
+use Rattle.advice.specs.steps.Counting.{placesFor, placesForAll}
 
--- ---- the first block has the most own bits
+-- ---- one more than n takes as many symbol places as n, or one more
 
-pub own-first : (b c : ℕ) → 0 < c → (r : ℕ) → ownBits b c r ≤ ownBits b c 0
-unfolding ownBits
-own-first b c some r =
-    below-or 0 (b % c)
-    (λ l. rw (lt-ltb 0 (b % c) l) (below-or r (b % c) (λ k. rw (lt-ltb r (b % c) k) (omega arith)) (λ k. rw (le-ltb r (b % c) k) (floor-ceil b c some))))
-    (λ l. rw (le-ltb 0 (b % c) l, le-ltb r (b % c) (omega arith)) (omega arith))
+module _ (n k : ℕ) (some : 0 < k) where
+  ceil-low : ceil n k ≤ ceil (n + 1) k
+  ceil-low = ceil-least n k some (ceil (n + 1) k) (omega (arith, ceil-covers (n + 1) k some))
+
+  ceil-high : ceil (n + 1) k ≤ ceil n k + 1
+  ceil-high = ceil-least (n + 1) k some (ceil n k + 1) (omega (arith, ceil-covers n k some, add-mul (ceil n k) 1 k, one-mul k))
+
+  ceil-next : (ceil (n + 1) k ≡ ceil n k → ⊥) → ceil (n + 1) k ≡ ceil n k + 1
+  ceil-next d = below-or (ceil n k) (ceil (n + 1) k) (λ l. omega (arith, ceil-high)) (λ l. absurd (d (omega (arith, ceil-low))))
+
+-- c numbers, the first s of which are one more than the others, which are q
+record Parts (c : ℕ) (f : ℕ → ℕ) : Type 0 where
+  q : ℕ
+  s : ℕ
+  some : s < c
+  is : (r : ℕ) → f r ≡ q + below s r
+
+-- are what their sum is shared out as
+parts-back : (c : ℕ) (f : ℕ → ℕ) → Parts c f → (r : ℕ) → ownBits (sumBelow c f) c r ≡ f r
+parts-back c f p r =
+    let all : sumBelow c f ≡ c * p .q + p .s = sum-same c f (λ i. p .q + below (p .s) i) (λ i l. p .is i) ∙ parts-sum c (p .q) (p .s) (omega (arith, p .some)) in
+    rw all (parts-own c (p .q) (p .s) (p .some) r ∙ sym (p .is r))
 
 module _ (R : List ℕ) (octets : ℕ) (cut : Cut R (blockBits octets)) where
   abbrev b : ℕ
@@ -43,59 +63,109 @@ module _ (R : List ℕ) (octets : ℕ) (cut : Cut R (blockBits octets)) where
   unfolding sendable filler
   sendable-is r = omega (arith, cut .product, ap (λ (n : ℕ). n * z R (sizeIndex R b)) (columns-is R), add-mul (kb R) (rows R) (z R (sizeIndex R b)), cut .own-most r, cut .room)
 
-  pub most-sendable : (r : ℕ) → sendable R b r ≤ mostSendable R octets
-  unfolding mostSendable
-  most-sendable r = omega (arith, sendable-is r, sendable-is 0, own-first b c (cut .some) r)
-
-  some-sendable : 1 ≤ mostSendable R octets
-  unfolding mostSendable
-  some-sendable = omega (arith, sendable-is 0, cut .own-some 0)
-
   module _ (terms : Terms) (some : 0 < placeBits terms) where
-    abbrev each : ℕ
-    each = ceil (mostSendable R octets) (placeBits terms)
+    -- ---- what the blocks take: the first may take one symbol place more than the others
 
-    each-some : 1 ≤ each
-    each-some = ceil-some (mostSendable R octets) (placeBits terms) some some-sendable
+    abbrev each : ℕ → ℕ
+    each = placesFor R b terms
 
-    -- G = N_L·Q_m·k is k symbol places, and each block is given k / C of them
-    places-at : (k : ℕ) → symbolPlaces terms (placeBits terms * k) .0 ≡ k
+    abbrev all : ℕ
+    all = placesForAll R b terms
+
+    -- N of a block with the fewest own bits
+    abbrev low : ℕ
+    low = b / c + rows R * z R (sizeIndex R b)
+
+    first-each : (r : ℕ) → r < b % c → each r ≡ ceil (low + 1) (placeBits terms)
+    unfolding placesFor
+    first-each r l =
+        let own : ownBits b c r ≡ b / c + 1 = own-parts b c (cut .some) r ∙ rw (lt-ltb r (b % c) l) in
+        let n : sendable R b r ≡ low + 1 = omega (arith, sendable-is r, own) in
+        ap (λ (n : ℕ). ceil n (placeBits terms)) n
+
+    other-each : (r : ℕ) → b % c ≤ r → each r ≡ ceil low (placeBits terms)
+    unfolding placesFor
+    other-each r l =
+        let own : ownBits b c r ≡ b / c + 0 = own-parts b c (cut .some) r ∙ rw (le-ltb r (b % c) l) in
+        let n : sendable R b r ≡ low = omega (arith, sendable-is r, own) in
+        ap (λ (n : ℕ). ceil n (placeBits terms)) n
+
+    parts : Parts c (placesFor R b terms)
+    parts =
+        equal-or (ceil (low + 1) (placeBits terms)) (ceil low (placeBits terms))
+        (λ e.
+        record {
+          q = ceil low (placeBits terms);
+          s = 0;
+          some = cut .some;
+          is = λ r. rw (le-ltb r 0 (omega arith)) (below-or r (b % c) (λ l. omega (arith, first-each r l)) (λ l. omega (arith, other-each r l)));
+        })
+        (λ d.
+        record {
+          q = ceil low (placeBits terms);
+          s = b % c;
+          some = mod-lt b (cut .some);
+          is = λ r.
+              below-or r (b % c) (λ l. rw (lt-ltb r (b % c) l) (first-each r l ∙ ceil-next low (placeBits terms) some d))
+              (λ l. rw (le-ltb r (b % c) l) (omega (arith, other-each r l)));
+        })
+
+    -- so each is given as many as it takes
+    given-each : (r : ℕ) → ownBits all c r ≡ each r
+    unfolding placesForAll
+    given-each = parts-back c (placesFor R b terms) parts
+
+    each-some : (r : ℕ) → 1 ≤ each r
+    unfolding placesFor
+    each-some r = ceil-some (sendable R b r) (placeBits terms) some (omega (arith, sendable-is r, cut .own-some r))
+
+    all-some : c ≤ all
+    unfolding placesForAll
+    all-some = omega (arith, sum-le c (λ r. 1) (placesFor R b terms) (λ r l. each-some r), sum-const c 1, mul-one c)
+
+    -- ---- G = N_L·Q_m·k is k symbol places
+
+    pub places-at : (k : ℕ) → symbolPlaces terms (placeBits terms * k) .0 ≡ k
     unfolding symbolPlaces symbolPlacesOf
     places-at k = mul-div-cancel-left k some
 
-    share-at : (k r : ℕ) → share terms (placeBits terms * k) c r .0 ≡ placeBits terms * (k / c)
-    unfolding share codedBitsOf
-    share-at k r = ap (λ (n : ℕ). placeBits terms * (n / c)) (places-at k)
+    share-at : (k r : ℕ) → share terms (placeBits terms * k) c r .0 ≡ placeBits terms * ownBits k c r
+    share-at k r = share-places terms (placeBits terms * k) c r ∙ ap (λ (n : ℕ). placeBits terms * ownBits n c r) (places-at k)
 
-    -- enough symbol places
-    module _ (k : ℕ) (h : c * each ≤ k) where
-      many : tooFewPlaces R octets terms (placeBits terms * k) ≡ false
-      unfolding tooFewPlaces
-      many = rw (places-at k) (le-ltb k c (omega (arith, mul-le-mul-left c each-some, mul-one c)))
+    abbrev lacks : ℕ → ℕ → Bool
+    lacks k r = ltb (share terms (placeBits terms * k) c r .0) (sendable R b r)
 
-      roomy : (r : ℕ) → ltb (share terms (placeBits terms * k) c r .0) (sendable R b r) ≡ false
-      roomy r =
-          let enough : each ≤ k / c = le-div-iff-mul-le (cut .some) .1 (omega (arith, mul-comm each c)) in
-          rw (share-at k r)
-          (le-ltb (placeBits terms * (k / c)) (sendable R b r)
-          (omega (arith, most-sendable r, ceil-covers (mostSendable R octets) (placeBits terms) some, mul-comm each (placeBits terms), mul-le-mul-left (placeBits terms) enough)))
+    -- as many as they take: every block has room
+    many : tooFewPlaces R octets terms (placeBits terms * all) ≡ false
+    unfolding tooFewPlaces
+    many = rw (places-at all) (le-ltb all c all-some)
 
-      pub room-above : roomAt R octets terms k ≡ true
-      unfolding roomAt hasRoom someWithoutRoom
-      room-above = rw (many, any-none c (λ r. ltb (share terms (placeBits terms * k) c r .0) (sendable R b r)) (λ r l. roomy r))
+    roomy : (r : ℕ) → lacks all r ≡ false
+    unfolding placesFor
+    roomy r =
+        rw (share-at all r, given-each r)
+        (le-ltb (placeBits terms * each r) (sendable R b r) (omega (arith, ceil-covers (sendable R b r) (placeBits terms) some, mul-comm (each r) (placeBits terms))))
 
-    -- too few: the first block has no room
-    module _ (k : ℕ) (h : k < c * each) where
+    pub room-at : roomAt R octets terms (placesForAll R b terms) ≡ true
+    unfolding roomAt hasRoom someWithoutRoom
+    room-at = rw (many, any-none c (lacks all) (λ r l. roomy r))
+
+    -- fewer: were there room in every block, they would be given more than there is
+    module _ (k : ℕ) (h : k < all) where
+      taken : (r : ℕ) → lacks k r ≡ false → each r ≤ ownBits k c r
+      unfolding placesFor
+      taken r e =
+          ceil-least (sendable R b r) (placeBits terms) some (ownBits k c r)
+          (omega (arith, ltb-false (share terms (placeBits terms * k) c r .0) (sendable R b r) e, share-at k r, mul-comm (placeBits terms) (ownBits k c r)))
+
       lacks-below : someWithoutRoom R octets terms (placeBits terms * k) ≡ true
-      unfolding someWithoutRoom mostSendable
-      lacks-below =
-          any-of c (λ r. ltb (share terms (placeBits terms * k) c r .0) (sendable R b r)) 0 (cut .some)
-          (rw (share-at k 0)
-          (below-or (placeBits terms * (k / c)) (sendable R b 0) (lt-ltb _ _)
-          (λ l.
-          let few : each ≤ k / c = ceil-least (mostSendable R octets) (placeBits terms) some (k / c) (omega (arith, mul-comm (placeBits terms) (k / c))) in
-          let all : each * c ≤ k = le-div-iff-mul-le (cut .some) .0 few in
-          absurd (omega (arith, mul-comm each c)))))
+      unfolding someWithoutRoom placesForAll
+      lacks-below = by-value (anyBelow c (lacks k)) refl
+        where
+          by-value : (v : Bool) → anyBelow c (lacks k) ≡ v → anyBelow c (lacks k) ≡ true
+          by-value true e = e
+          by-value false e =
+              absurd (omega (arith, h, sum-le c (placesFor R b terms) (ownBits k c) (λ r l. taken r (none-any c (lacks k) e r l)), own-sum k c (cut .some)))
 
       pub room-below : roomAt R octets terms k ≡ false
       unfolding roomAt hasRoom
@@ -107,20 +177,20 @@ module _ (R : List ℕ) (octets : ℕ) (cut : Cut R (blockBits octets)) where
 
     -- ---- the least
 
-    pub some-room : c * each ≤ 65536 / placeBits terms → someRoom R octets terms ≡ true
+    pub some-room : placesForAll R b terms ≤ 65536 / placeBits terms → someRoom R octets terms ≡ true
     unfolding someRoom allocations
-    some-room h = any-of (suc (65536 / placeBits terms)) (roomAt R octets terms) (c * each) (omega arith) (room-above (c * each) (omega arith))
+    some-room h = any-of (suc (65536 / placeBits terms)) (roomAt R octets terms) all (omega arith) room-at
 
-    pub no-room : 65536 / placeBits terms < c * each → someRoom R octets terms ≡ false
+    pub no-room : 65536 / placeBits terms < placesForAll R b terms → someRoom R octets terms ≡ false
     unfolding someRoom allocations
     no-room h = any-none (suc (65536 / placeBits terms)) (roomAt R octets terms) (λ k l. room-below k (omega arith))
 
-    pub least-is : c * each ≤ 65536 / placeBits terms → leastBits R octets terms ≡ placeBits terms * (c * each)
+    pub least-is : placesForAll R b terms ≤ 65536 / placeBits terms → leastBits R octets terms ≡ placeBits terms * placesForAll R b terms
     unfolding leastBits allocations
     least-is h =
         ap (λ (k : ℕ). placeBits terms * k)
-        (first-is (suc (65536 / placeBits terms)) (roomAt R octets terms) (c * each)
-        (record { below = omega arith; holds = room-above (c * each) (omega arith); none = room-below }))
+        (first-is (suc (65536 / placeBits terms)) (roomAt R octets terms) all (record { below = omega arith; holds = room-at; none = room-below }))
 
-    pub share-is : share terms (placeBits terms * (c * each)) c 0 .0 ≡ placeBits terms * each
-    share-is = share-at (c * each) 0 ∙ ap (λ (k : ℕ). placeBits terms * k) (mul-div-cancel-left each (cut .some))
+    pub spare-is : spare terms (placeBits terms * placesForAll R b terms) c .0 ≡ placesForAll R b terms % c
+    unfolding spare
+    spare-is = ap (λ (n : ℕ). n % c) (places-at all)

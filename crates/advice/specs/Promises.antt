@@ -2,12 +2,12 @@
 use mathlib.Core.Path.{_≡_}
 use mathlib.Core.Bool.{Bool, not}
 use mathlib.Core.List.{List, [], _∷_, _++_}
-use Prim.Native.Nat.{ℕ}
+use Prim.Native.Nat.{ℕ, _-_}
 use Rattle.bits.specs.Numbers.{answered, whenDone}
 use Rattle.bits.specs.Ranges.{within}
 use Rattle.bits.specs.declared.count.Terms.{Terms}
 use Rattle.cutting.specs.Plan.{blockBits, blocks}
-use Rattle.coding.specs.Allocation.{share}
+use Rattle.coding.specs.Allocation.{spare, share}
 use Rattle.coding.specs.Promises.{cutConditions}
 use Rattle.advice.specs.Least.{someRoom, leastBits}
 use Rattle.advice.specs.declared.Least.{Least}
@@ -23,5 +23,9 @@ leastNumber R octets terms = answered (leastConditions R octets terms)
 pub record LeastRoom (R : List ℕ) (octets : ℕ) (terms : Terms) (r : Least) : Type 0 where
   pub number : r .number ≡ leastNumber R octets terms
   pub bits : r .bits .0 ≡ whenDone (leastNumber R octets terms) (leastBits R octets terms) 0
-  pub share : r .share .0 ≡ whenDone (leastNumber R octets terms) (share terms (leastBits R octets terms) (blocks R (blockBits octets)) 0 .0) 0
+  -- γ blocks have the first block's share, and the others that of the last
+  pub larger : r .larger ≡ whenDone (leastNumber R octets terms) (spare terms (leastBits R octets terms) (blocks R (blockBits octets)) .0) 0
+  pub first : r .first .0 ≡ whenDone (leastNumber R octets terms) (share terms (leastBits R octets terms) (blocks R (blockBits octets)) 0 .0) 0
+  pub last : r .last .0
+      ≡ whenDone (leastNumber R octets terms) (share terms (leastBits R octets terms) (blocks R (blockBits octets)) (blocks R (blockBits octets) - 1) .0) 0
   pub blocks : r .blocks ≡ whenDone (leastNumber R octets terms) (blocks R (blockBits octets)) 0

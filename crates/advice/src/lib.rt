@@ -7,10 +7,14 @@ use bits::count::inner::symbol_places;
 use bits::count::inner::symbol_places_for;
 use bits::number::DONE;
 use bits::number::NO_ROOM;
+use cutting::Plan;
 ghost use mathlib.Core.Path.{_≡_};
+ghost use Prim.Native.Nat.{_≤_};
+ghost use Rattle.bits.specs.steps.Counting.{Usable};
+ghost use Rattle.cutting.specs.steps.Plans.{SomePlan};
 ghost use Rattle.coding.specs.steps.Numbers.{cutNumber};
 ghost use Rattle.advice.specs.Promises.{LeastRoom};
-ghost use Rattle.advice.specs.steps.Counting.{refusal};
+ghost use Rattle.advice.specs.steps.Counting.{refusal, placesForAll};
 
 // The least allocation, all 0 with a refusal.
 pub struct Least {
@@ -19,8 +23,11 @@ pub struct Least {
     pub bits: CodedBits,
     // C, the count of code blocks.
     pub blocks: usize,
-    // E, each block's share.
-    pub share: CodedBits,
+    // How many of them have the first block's share; where it is none, all have the same.
+    pub larger: usize,
+    // The share of the first block, and that of the last.
+    pub first: CodedBits,
+    pub last: CodedBits,
 }
 
 // With a refusal all else is 0.
@@ -32,32 +39,52 @@ fn refused(number: u32) -> Least
         number,
         bits: none,
         blocks: 0,
-        share: none,
+        larger: 0,
+        first: none,
+        last: none,
     }
 }
 
-// The least G of a block that no number before 13 refuses: each of its C blocks is given the symbol places that the largest N takes.
+// The symbol places that all blocks take together: each as many as its own N.
+fn places_for_all(profile: &[u8], plan: Plan, terms: Terms) -> SymbolPlaces
+    requires { ⌜ SomePlan (now profile) plan × Usable terms ⌝ }
+    ensures { λ n. ⌜ (n .0 ≡ placesForAll (now (profile .entry)) (plan .bits) terms) × (n .0 ≤ 165888) ⌝ }
+{
+    let c = plan.blocks;
+    let mut all = 0;
+    let mut r = 0;
+    while r < c {
+        let n = coding::inner::sendable(profile, plan, r);
+        let mine = symbol_places_for(n, terms);
+        all += mine.0;
+        r += 1;
+    }
+    SymbolPlaces(all)
+}
+
+// The least G of a block that no number before 13 refuses: as many symbol places as all blocks take. The first blocks may take one more than the others,
+// and are those that have it.
 fn least_cut(profile: &[u8], octets: usize, terms: Terms) -> Least
     requires { ⌜ cutNumber (now profile) octets terms 0 ≡ 0 ⌝ }
     ensures { λ r. ⌜ LeastRoom (now (profile .entry)) octets terms r ⌝ }
 {
     let plan = cutting::inner::plan_accepted(profile, octets);
-    let c = plan.blocks;
-    // The first block has the most own bits, and so the largest N.
-    let n = coding::inner::sendable(profile, plan, 0);
-    let each = symbol_places_for(n, terms);
-    let all = c * each.0;
+    let all = places_for_all(profile, plan, terms);
     let most = symbol_places(CodedBits(65536), terms);
-    if most.0 < all {
+    if most.0 < all.0 {
         return refused(NO_ROOM);
     }
-    let bits = coded_bits(SymbolPlaces(all), terms);
-    let share = coded_bits(each, terms);
+    let c = plan.blocks;
+    let bits = coded_bits(all, terms);
+    let first = coding::inner::share_of(terms, bits, c, 0);
+    let last = coding::inner::share_of(terms, bits, c, c - 1);
     Least {
         number: DONE,
         bits,
         blocks: c,
-        share,
+        larger: all.0 % c,
+        first,
+        last,
     }
 }
 

@@ -5,13 +5,16 @@ use Prim.Native.Nat.{ℕ}
 use lib.ListN.{length, drop}
 use Rattle.bits.specs.declared.count.Terms.{Terms}
 use Rattle.bits.proofs.Answers.{when-done, when-refused}
-use Rattle.cutting.specs.Plan.{blockBits}
+use Rattle.cutting.specs.Plan.{blockBits, blocks}
 use Rattle.cutting.specs.Promises.{planNumber}
 use Rattle.cutting.specs.Transport.{transport}
+use Rattle.cutting.proofs.Plans.{plan-cut}
 use Rattle.coding.specs.Joining.{radioBits}
 use Rattle.coding.specs.Promises.{sendNumber, Sent}
 use Rattle.coding.specs.steps.Numbers.{requestNumber}
+use Rattle.coding.specs.steps.Shares.{Allocated}
 use Rattle.coding.proofs.RequestNumber.{request-passed}
+use Rattle.coding.proofs.Shares.{allocated}
 
 module _ (R block : List ℕ) (terms : Terms) (g : ℕ) where
   -- what the request is refused with is what sending is refused with
@@ -22,6 +25,12 @@ module _ (R block : List ℕ) (terms : Terms) (g : ℕ) where
   -- and a block that it is not refused for can be cut
   pub send-planned : (room : ℕ) → sendNumber R block terms g room ≡ 0 → planNumber R (length block) ≡ 0
   send-planned room e = request-passed R (length block) terms g g room (request-is room ∙ e) .0
+
+  -- into blocks that the allocation is shared out among
+  pub send-allocated : (room : ℕ) → sendNumber R block terms g room ≡ 0 → Allocated terms g (blocks R (blockBits (length block)))
+  send-allocated room e =
+      let ok = request-passed R (length block) terms g g room (request-is room ∙ e) in
+      allocated terms g (blocks R (blockBits (length block))) (ok .1) (plan-cut R (length block) (ok .0) .some)
 
   module _ (out : List ℕ) where
     abbrev sent : List ℕ

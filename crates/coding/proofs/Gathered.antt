@@ -2,13 +2,13 @@
 -- it is what the receiver gathers.
 use mathlib.Core.Path.{_≡_, refl, sym, ap, ap₂, _∙_, subst}
 use mathlib.Core.List.{List, [], _++_, append-nil}
-use Prim.Native.Nat.{ℕ, suc, _+_, _-_, _*_, _≤_, _<_}
+use Prim.Native.Nat.{ℕ, suc, _+_, _*_, _≤_, _<_}
 use native.Mathlib.Nat.{add-mul}
 use native.Mathlib.Omega.{arith}
 use borrow.Author.Tests.{ltb-false}
 use lib.Dec.{ltb}
-use lib.ListN.{length, getD, take, drop, replicate, take-append-drop}
-use lib.Seq.{take-all, take-take, drop-at}
+use lib.ListN.{length, getD, take, drop}
+use lib.Seq.{take-all, take-take}
 use Rattle.bits.specs.Bits.{AreBits}
 use Rattle.bits.specs.Ranges.{sumBelow}
 use Rattle.bits.specs.declared.count.Terms.{Terms}
@@ -24,16 +24,18 @@ use Rattle.cutting.proofs.Plans.{Cut, plan-cut}
 use Rattle.matching.specs.Matching.{matched}
 use Rattle.coding.specs.Blocks.{codedBlock, sendable}
 use Rattle.coding.specs.Allocation.{share}
-use Rattle.coding.specs.Joining.{blockSent, joined, padded, radioBits}
+use Rattle.coding.specs.Joining.{blockSent, joined, radioBits}
 use Rattle.coding.specs.Receiving.{someWithoutRoom}
+use Rattle.coding.specs.steps.Shares.{Allocated}
 use Rattle.coding.specs.steps.Receiving.{shareStart, ownReceived, gathered, Receivable}
 use Rattle.coding.proofs.ReceivedBlock.{front-own}
 use Rattle.coding.proofs.Joining.{length-joined, joined-part, joined-same, joined-bits, joined-cut}
-use Rattle.coding.proofs.Shares.{shares-fit}
+use Rattle.coding.proofs.Shares.{shares-all}
 
 -- bits in which every block has room for its coded bits that are not filler
 pub record HasRoom (R : List ℕ) (b : ℕ) (terms : Terms) (bits : List ℕ) : Type 0 where
   pub cut : Cut R b
+  pub allocated : Allocated terms (length bits) (blocks R b)
   pub single : AreBits bits
   pub room : (r : ℕ) → r < blocks R b → sendable R b r ≤ share terms (length bits) (blocks R b) r .0
 
@@ -44,6 +46,7 @@ has-room-of R octets terms bits h =
     let c = blocks R b in
     record {
       cut = plan-cut R octets (h .taken);
+      allocated = h .allocated;
       single = h .single;
       room = λ r l. ltb-false _ _ (none-any c (λ i. ltb (share terms (length bits) c i .0) (sendable R b i)) (h .room) r l);
     }
@@ -80,11 +83,16 @@ module _ (R : List ℕ) (b : ℕ) (terms : Terms) (bits : List ℕ) (h : HasRoom
   pub has-room : (r : ℕ) → r < c → mine r + rows R * z R (sizeIndex R b) ≤ given r
   has-room r l = omega (arith, sendable-is r, h .room r l)
 
+  -- the stretches are all that was received
+  stretches-end : at c ≡ g
+  unfolding shareStart
+  stretches-end = shares-all terms g c (h .allocated)
+
   pub stretch-within : (r : ℕ) → r < c → at r + given r ≤ g
   unfolding shareStart sumBelow
   stretch-within r l =
       let within : suc r ≤ c = omega arith in
-      omega (arith, sum-mono (λ i. share terms g c i .0) (suc r) c within, shares-fit terms g c)
+      omega (arith, sum-mono (λ i. share terms g c i .0) (suc r) c within, stretches-end)
 
   -- ---- the gathered bits
 
@@ -134,33 +142,28 @@ module _ (R : List ℕ) (b : ℕ) (terms : Terms) (bits : List ℕ) (h : HasRoom
     unfolding f shareStart
     sent-length r = length-joined f r ∙ sum-same r _ _ (λ i o. block-length i)
 
-    sent-is : radioBits R b u terms g ≡ joined c f ++ replicate (g - at c) 0
-    unfolding f radioBits padded
-    sent-is = ap (λ (n : ℕ). joined c f ++ replicate (g - n) 0) (sent-length c)
+    sent-is : radioBits R b u terms g ≡ joined c f
+    unfolding f radioBits
+    sent-is = refl
 
     module _ (e : radioBits R b u terms g ≡ bits) where
-      whole : bits ≡ joined c f ++ replicate (g - at c) 0
-      whole = sym e ∙ sent-is
+      whole : bits ≡ joined c f ++ []
+      whole = sym e ∙ sent-is ∙ sym (append-nil (joined c f))
 
       -- each block's bits are its stretch
       pub stretch-sent : (r : ℕ) → r < c → blockSent R b u terms g r ≡ take (given r) (drop (at r) bits)
       unfolding f
       stretch-sent r l =
-          let part = joined-part f c r (replicate (g - at c) 0) l in
-          sym part ∙ ap₂ (λ (i j : ℕ). take i (drop j (joined c f ++ replicate (g - at c) 0))) (block-length r) (sent-length r)
+          let part = joined-part f c r [] l in
+          sym part ∙ ap₂ (λ (i j : ℕ). take i (drop j (joined c f ++ []))) (block-length r) (sent-length r)
           ∙ ap (λ (l : List ℕ). take (given r) (drop (at r) l)) (sym whole)
 
-      -- and what is left is zeros
-      pub rest-sent : drop (at c) bits ≡ replicate (g - at c) 0
-      rest-sent = ap (drop (at c)) whole ∙ drop-at (joined c f) (replicate (g - at c) 0) (at c) (sent-length c)
-
     -- the other way round
-    pub all-sent : ((r : ℕ) → r < c → blockSent R b u terms g r ≡ take (given r) (drop (at r) bits)) → drop (at c) bits ≡ replicate (g - at c) 0
-        → radioBits R b u terms g ≡ bits
+    pub all-sent : ((r : ℕ) → r < c → blockSent R b u terms g r ≡ take (given r) (drop (at r) bits)) → radioBits R b u terms g ≡ bits
     unfolding f shareStart
-    all-sent each rest =
-        sent-is ∙ ap₂ (λ (x y : List ℕ). x ++ y) (joined-same f (λ r. take (given r) (drop (at r) bits)) c each ∙ joined-cut given bits c) (sym rest)
-        ∙ take-append-drop (at c) bits
+    all-sent each =
+        sent-is ∙ joined-same f (λ r. take (given r) (drop (at r) bits)) c each ∙ joined-cut given bits c
+        ∙ take-all (at c) bits (omega (arith, stretches-end))
 
     -- they are the gathered ones
     module _ (size : length u ≡ b) (single : AreBits u) (e : radioBits R b u terms g ≡ bits) where

@@ -1,17 +1,17 @@
 -- Blocks' bits one behind the other, and what the output holds after a part of it was lent and came back.
 use mathlib.Core.Path.{_≡_, refl, sym, ap, ap₂, _∙_}
-use mathlib.Core.List.{List, [], _∷_, _++_, append-assoc, append-nil}
+use mathlib.Core.List.{List, [], _++_, append-assoc, append-nil}
 use Prim.Native.Nat.{ℕ, zero, suc, _+_, _-_, _≤_, _<_}
 use native.Mathlib.Numerals.{add-one}
 use native.Mathlib.Omega.{arith}
-use lib.ListN.{length, getD, take, drop, set, replicate, length-append, length-drop, length-replicate, replicate-append-replicate, drop-of-length-le}
+use lib.ListN.{length, take, drop, length-append, length-drop, drop-of-length-le}
 use lib.Dec.{lit<}
-use lib.Seq.{take-all, take-at, take-add, take-append-seam, drop-at, drop-append-seam, drop-drop, drop-cons, set-at}
+use lib.Seq.{take-all, take-at, take-add, take-append-seam, drop-at, drop-append-seam, drop-drop}
 use Rattle.bits.specs.Bits.{AreBits}
 use Rattle.bits.specs.Ranges.{sumBelow}
 use Rattle.bits.proofs.Lists.{bits-append}
 use Rattle.bits.proofs.Ranges.{last-or}
-use Rattle.coding.specs.Joining.{joined, padded}
+use Rattle.coding.specs.Joining.{joined}
 
 -- ---- a part from a place to the end
 
@@ -88,22 +88,3 @@ unfolding joined sumBelow
 joined-cut size s zero = refl
 joined-cut size s (suc n) =
     ap (λ (l : List ℕ). l ++ take (size n) (drop (sumBelow n size) s)) (joined-cut size s n) ∙ sym (take-add (sumBelow n size) (size n) s)
-
--- ---- zeros in what is left
-
-pub padded-is : (g at : ℕ) (p old out part : List ℕ) → out ≡ p ++ drop at old → length p ≡ at → at ≤ g
-    → part ≡ replicate (g - at) 0 ++ drop (g - at) (take (length out - at) (drop at out))
-    → take at out ++ (part ++ drop (length out - at) (drop at out)) ≡ padded g p ++ drop g old
-unfolding padded
-padded-is g at p old out part e l h y =
-    let all : at + (g - at) ≡ g = omega arith in
-    part-back at (g - at) p old out part (replicate (g - at) 0) e l y
-    ∙ ap₂ (λ (n k : ℕ). (p ++ replicate (g - n) 0) ++ drop k old) (sym l) all
-
--- one zero more in front
-pub zeros-more : (old out : List ℕ) (k : ℕ) → k < length old → out ≡ replicate k 0 ++ drop k old → set out k 0 ≡ replicate (k + 1) 0 ++ drop (k + 1) old
-zeros-more old out k h e =
-    let more : replicate {A = ℕ} (k + 1) 0 ≡ replicate k 0 ++ (0 ∷ []) = sym (replicate-append-replicate k 1 0) in
-    rw (e, drop-cons old k 0, add-one k)
-    (set-at (replicate k 0) (getD old k 0) (drop (suc k) old) 0 k (length-replicate {A = ℕ} k 0)
-    ∙ sym (append-assoc (replicate k 0) (0 ∷ []) (drop (suc k) old)) ∙ ap (λ (l : List ℕ). l ++ drop (suc k) old) (sym more ∙ ap (λ (n : ℕ). replicate n 0) (add-one k)))

@@ -2,18 +2,17 @@
 use mathlib.Core.Path.{_≡_, refl, sym, ap, ap₂, _∙_}
 use mathlib.Core.Bool.{Bool, true, false, true≢false}
 use mathlib.Core.List.{List, _++_}
-use Prim.Native.Nat.{ℕ, zero, suc, _+_, _-_, _*_, _≤_, _<_}
+use Prim.Native.Nat.{ℕ, _+_, _-_, _*_, _≤_, _<_}
 use native.Mathlib.Nat.{add-mul}
 use native.Mathlib.Numerals.{add-one}
 use native.Mathlib.Omega.{arith}
-use lib.ListN.{length, getD, take, drop, replicate, length-drop, getD-replicate, length-replicate}
-use lib.Seq.{ext-getD, take-take}
-use Rattle.bits.specs.Bits.{same, someOver, withFiller}
+use lib.ListN.{length, take, drop}
+use lib.Seq.{take-take}
+use Rattle.bits.specs.Bits.{same, withFiller}
 use Rattle.bits.specs.Ranges.{sumBelow}
 use Rattle.bits.specs.declared.count.Terms.{Terms}
 use Rattle.bits.specs.steps.Places.{Laid}
 use Rattle.bits.proofs.Lists.{same-equal, same-self, length-part}
-use Rattle.bits.proofs.Over.{none-over}
 use Rattle.bits.proofs.Ranges.{last-or}
 use Rattle.bits.proofs.Laid.{laid-front}
 use Rattle.profile.specs.Record.{kb, rows, columns, table}
@@ -26,27 +25,10 @@ use Rattle.coding.specs.Blocks.{codedBlock}
 use Rattle.coding.specs.Allocation.{share}
 use Rattle.coding.specs.Joining.{blockSent, joined, radioBits}
 use Rattle.coding.specs.steps.Blocks.{blockSentAs}
+use Rattle.coding.specs.steps.Shares.{Allocated}
 use Rattle.coding.specs.steps.Receiving.{shareStart, ownReceived, gathered, ReceivablePlan}
-use Rattle.coding.proofs.Gathered.{HasRoom, has-room-of, has-room, own-gathered, stretch-sent, rest-sent, all-sent}
+use Rattle.coding.proofs.Gathered.{HasRoom, has-room-of, has-room, own-gathered, stretch-sent, all-sent}
 use Rattle.coding.proofs.Sent.{start-none, start-turn, own-is, own-fits, share-fits, share-turn}
-
--- ---- lists
-
--- no octet over 0: all are zeros
-zeros-of : (l : List ℕ) → someOver 0 l ≡ false → l ≡ replicate (length l) 0
-zeros-of l e =
-    ext-getD 0 l (replicate (length l) 0) (sym (length-replicate {A = ℕ} (length l) 0))
-    (λ k h. zero-of (getD l k 0) (none-over 0 l e k) ∙ sym (getD-replicate (length l) k 0 0 h))
-  where
-    zero-of : (n : ℕ) → n ≤ 0 → n ≡ 0
-    zero-of n h = omega arith
-
-zeros-over : (n : ℕ) → someOver 0 (replicate n 0) ≡ false
-unfolding someOver
-zeros-over zero = refl
-zeros-over (suc n) = zeros-over n
-
--- ---- the walk
 
 -- the blocks before r were tested and are what the gathered bits are sent as, and their own bits stand in front of room
 pub record Walk (R : List ℕ) (terms : Terms) (bits : List ℕ) (b : ℕ) (old : List ℕ) (r start from : ℕ) (room : List ℕ) : Type 0 where
@@ -82,6 +64,9 @@ module _ (R : List ℕ) (terms : Terms) (bits : List ℕ) (p : Plan) (h : Receiv
       rw is at (has-room-of R (h .octets) terms bits (h .receivable))
 
   -- in terms of the plan
+  pub given-here : Allocated terms (length bits) (p .blocks)
+  given-here = rw (fields .blocks-is) (room-everywhere .allocated)
+
   abbrev given : ℕ → ℕ
   given r = share terms (length bits) (blocks R (p .bits)) r .0
 
@@ -114,7 +99,7 @@ module _ (R : List ℕ) (terms : Terms) (bits : List ℕ) (p : Plan) (h : Receiv
         ap₂ withFiller (fields .places-is) (take-take n e (drop from bits) less ∙ own-here ∙ sym mine)
 
     s-length : length s ≡ e
-    s-length = length-part e from bits (share-fits R p fields terms (length bits) r from e l a d)
+    s-length = length-part e from bits (share-fits R p fields terms (length bits) given-here r from e l a d)
 
     tested-is : blockSentAs (table R (p .index)) (rows R) (columns R) (p .z) (withFiller (p .places) (take n s)) s
         ≡ same (blockSent R (p .bits) t terms (length bits) r) s
@@ -142,7 +127,7 @@ module _ (R : List ℕ) (terms : Terms) (bits : List ℕ) (p : Plan) (h : Receiv
       walk-more old room room' start y big w laid =
           let k = fields in
           let fits = own-fits R p k r start n l (w .starts) q in
-          let shares = share-fits R p k terms (length bits) r from e l a d in
+          let shares = share-fits R p k terms (length bits) given-here r from e l a d in
           let less = room-here r n e l q d in
           let inside : start + n ≤ length room = omega (arith, fits, k .cut .bits-high, w .same) in
           record {
@@ -158,32 +143,11 @@ module _ (R : List ℕ) (terms : Terms) (bits : List ℕ) (p : Plan) (h : Receiv
   -- ---- after the last block
 
   module _ (old room : List ℕ) (r start from : ℕ) (end : r ≡ p .blocks) (w : Walk R terms bits (p .bits) old r start from room) where
-    abbrev rest : List ℕ
-    rest = drop from bits
-
-    rest-is : from ≡ at (blocks R (p .bits))
-    rest-is = w .stands ∙ ap at (end ∙ fields .blocks-is)
-
-    goal-rest : drop (shareStart terms (length bits) (blocks R (p .bits)) (blocks R (p .bits))) bits ≡ drop from bits
-    unfolding shareStart
-    goal-rest = ap (λ (x : ℕ). drop x bits) (sym rest-is)
-
-    count-is : length bits - shareStart terms (length bits) (blocks R (p .bits)) (blocks R (p .bits)) ≡ length rest
-    unfolding shareStart
-    count-is = ap (λ (x : ℕ). length bits - x) (sym rest-is) ∙ sym (length-drop from bits)
-
-    pub rest-other : someOver 0 rest ≡ true → radioBits R (p .bits) t terms (length bits) ≡ bits → ⊥
-    rest-other y whole =
-        let zeros : rest ≡ replicate (length rest) 0 =
-        sym goal-rest ∙ rest-sent R (p .bits) terms bits room-everywhere t whole ∙ ap (λ (n : ℕ). replicate n 0) count-is in
-        true≢false (sym y ∙ ap (someOver 0) zeros ∙ zeros-over (length rest))
-
-    pub walk-done : someOver 0 rest ≡ false → (radioBits R (p .bits) t terms (length bits) ≡ bits) × (take (p .bits) room ≡ t)
+    pub walk-done : (radioBits R (p .bits) t terms (length bits) ≡ bits) × (take (p .bits) room ≡ t)
     unfolding gathered shareStart ownStart
-    walk-done y =
+    walk-done =
         let k = fields in
         let all : start ≡ p .bits = w .starts ∙ ap (ownStart R (p .bits)) (end ∙ k .blocks-is) ∙ k .cut .own-sum in (
-          all-sent R (p .bits) terms bits room-everywhere t (λ i u. w .sent i (omega (arith, k .blocks-is, end)))
-              (goal-rest ∙ zeros-of rest y ∙ ap (λ (n : ℕ). replicate n 0) (sym count-is)),
+          all-sent R (p .bits) terms bits room-everywhere t (λ i u. w .sent i (omega (arith, k .blocks-is, end))),
           ap (λ (x : ℕ). take x room) (sym all) ∙ w .front ∙ ap (λ (n : ℕ). joined n (ownReceived R (p .bits) terms bits)) (end ∙ k .blocks-is),
         )

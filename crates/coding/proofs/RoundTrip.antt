@@ -7,7 +7,7 @@ use native.Mathlib.Nat.{le-refl}
 use native.Mathlib.Omega.{arith}
 use borrow.Author.Tests.{le-leb, eq-eqb, eqb-false}
 use lib.Dec.{eqb, lit<}
-use lib.ListN.{length, getD, take, drop, replicate, length-append, length-replicate}
+use lib.ListN.{length, getD, take, drop, replicate}
 use lib.Seq.{take-at}
 use Rattle.bits.specs.Bits.{AreBits, AreOctets, someOver, digits, withFiller}
 use Rattle.bits.specs.Numbers.{answered}
@@ -16,7 +16,7 @@ use Rattle.bits.specs.declared.number.Written.{Written}
 use Rattle.bits.specs.declared.count.Terms.{Terms}
 use Rattle.bits.proofs.Answers.{applies, passes, none-left, Refusals, last-part, when-done, when-refused}
 use Rattle.bits.proofs.Digits.{digits-bits}
-use Rattle.bits.proofs.Lists.{bits-append, bits-take, bits-drop, bits-zeros}
+use Rattle.bits.proofs.Lists.{bits-append, bits-take, bits-drop}
 use Rattle.bits.proofs.Over.{bits-not-over}
 use Rattle.bits.proofs.Sums.{sum-same}
 use Rattle.bits.proofs.Listed.{length-list}
@@ -30,18 +30,19 @@ use Rattle.parity.specs.Coded.{withParity, checksWith, coded}
 use Rattle.matching.specs.Matching.{kept, matched}
 use Rattle.coding.specs.Blocks.{codedBlock}
 use Rattle.coding.specs.Allocation.{share}
-use Rattle.coding.specs.Joining.{blockSent, joined, padded, radioBits}
+use Rattle.coding.specs.Joining.{blockSent, joined, radioBits}
 use Rattle.coding.specs.Receiving.{someSentAs, receivedBlock, someWithoutRoom}
 use Rattle.coding.specs.Promises.{requestConditions, sendNumber, notOctets, receiveNumber, Sent, Received}
 use Rattle.coding.specs.RoundTrip.{Roomy, NoneSentAs}
+use Rattle.coding.specs.steps.Shares.{Allocated}
 use Rattle.coding.specs.steps.Receiving.{Receivable, Decided}
-use Rattle.coding.proofs.Answers.{send-done}
+use Rattle.coding.proofs.Answers.{send-allocated, send-done}
 use Rattle.coding.proofs.Joining.{length-joined, joined-bits}
 use Rattle.coding.proofs.Received.{sent-as-is, sent-as-of, block-only, some-from, received-is, received-sent, received-length, received-octets}
-use Rattle.coding.proofs.Shares.{shares-fit, allocated}
+use Rattle.coding.proofs.Shares.{shares-all, allocated}
 use Rattle.coding.proofs.RequestNumber.{request-none}
 
--- ---- what is sent are G bits, of any block and in any allocation
+-- ---- what is sent are bits, of any block; and G of them, in any allocation that 8 does not refuse
 
 -- every element is a bit or the mark 2
 abbrev AreMarks : List ℕ → Type 0
@@ -108,23 +109,18 @@ block-bits R b bits terms g r h =
     (coded-marks (table R i) (rows R) (columns R) (z R i) (withFiller (places R b) (own R b bits r)) (filled-marks (places R b) (own R b bits r) (own-bits R b bits r h)))
 
 pub sent-bits : (R : List ℕ) (b : ℕ) (bits : List ℕ) (terms : Terms) (g : ℕ) → AreBits bits → AreBits (radioBits R b bits terms g)
-unfolding radioBits padded
-sent-bits R b bits terms g h =
-    let c = blocks R b in
-    let f = blockSent R b bits terms g in
-    bits-append (joined c f) (replicate (g - length (joined c f)) 0)
-    (joined-bits f c (λ r l. block-bits R b bits terms g r h)) (bits-zeros (g - length (joined c f)))
+unfolding radioBits
+sent-bits R b bits terms g h = joined-bits (blockSent R b bits terms g) (blocks R b) (λ r l. block-bits R b bits terms g r h)
 
-pub sent-length : (R : List ℕ) (b : ℕ) (bits : List ℕ) (terms : Terms) (g : ℕ) → length (radioBits R b bits terms g) ≡ g
-unfolding radioBits padded blockSent matched
-sent-length R b bits terms g =
+pub sent-length : (R : List ℕ) (b : ℕ) (bits : List ℕ) (terms : Terms) (g : ℕ) → Allocated terms g (blocks R b) → length (radioBits R b bits terms g) ≡ g
+unfolding radioBits blockSent matched
+sent-length R b bits terms g h =
     let c = blocks R b in
     let f = blockSent R b bits terms g in
     let given : ℕ → ℕ = λ r. share terms g c r .0 in
-    let front : length (joined c f) ≡ sumBelow c given =
-    length-joined f c ∙ sum-same c (λ r. length (f r)) given (λ r l. length-list (share terms g c r .0) (λ k. getD (kept (codedBlock R b bits r)) (k % length (kept (codedBlock R b bits r))) 0)) in
-    length-append (joined c f) (replicate (g - length (joined c f)) 0)
-    ∙ omega (arith, front, shares-fit terms g c, length-replicate {A = ℕ} (g - length (joined c f)) 0)
+    length-joined f c
+    ∙ sum-same c (λ r. length (f r)) given (λ r l. length-list (share terms g c r .0) (λ k. getD (kept (codedBlock R b bits r)) (k % length (kept (codedBlock R b bits r))) 0))
+    ∙ shares-all terms g c h
 
 inside : (n : ℕ) → 1 ≤ n → n ≤ 2048 → within 1 2048 n ≡ true
 inside n low high = rw (le-leb 1 n low, le-leb n 2048 high)
@@ -135,18 +131,21 @@ inside n low high = rw (le-leb 1 n low, le-leb n 2048 high)
 abbrev radio : List ℕ → List ℕ → Terms → ℕ → List ℕ
 radio R block = radioBits R (blockBits (length block)) (transport block)
 
-radio-length : (R block : List ℕ) (terms : Terms) (g : ℕ) → length (radio R block terms g) ≡ g
-radio-length R block = sent-length R (blockBits (length block)) (transport block)
+radio-length : (R block : List ℕ) (terms : Terms) (g room : ℕ) → sendNumber R block terms g room ≡ 0 → length (radio R block terms g) ≡ g
+radio-length R block terms g room e = sent-length R (blockBits (length block)) (transport block) terms g (send-allocated R block terms g room e)
 
 module _ {R block : List ℕ} {terms : Terms} {g : ℕ} {out : List ℕ} {r : Written} {o : List ℕ} (s : Sent R block terms g out r o) (done : r .number ≡ 0) where
+  passed : sendNumber R block terms g (length out) ≡ 0
+  passed = sym (s .number) ∙ done
+
   pub sent-front : take g o ≡ radioBits R (blockBits (length block)) (transport block) terms g
   sent-front =
-      ap (take g) (s .output ∙ when-done (sendNumber R block terms g (length out)) (radio R block terms g ++ drop g out) out (sym (s .number) ∙ done))
-      ∙ take-at (radio R block terms g) (drop g out) g (radio-length R block terms g)
+      ap (take g) (s .output ∙ when-done (sendNumber R block terms g (length out)) (radio R block terms g ++ drop g out) out passed)
+      ∙ take-at (radio R block terms g) (drop g out) g (radio-length R block terms g (length out) passed)
 
   -- so it is sent as what it left
   sent-size : length (take g o) ≡ g
-  sent-size = ap length sent-front ∙ radio-length R block terms g
+  sent-size = ap length sent-front ∙ radio-length R block terms g (length out) passed
 
   sent-back : radio R block terms (length (take g o)) ≡ take g o
   sent-back = ap (radio R block terms) sent-size ∙ sym sent-front
@@ -289,6 +288,7 @@ unsent-exactly {R} {octets} {terms} {bits} {buf} {r} h single fits v = (none, on
             let is = sent-as-is R terms bits block (received-sent R octets terms bits H e) in
             let size = received-length R octets terms bits H in
             let g = length bits in
-            let sent = send-done R block terms g bits (none-refuses block (roomy block size) g (le-refl g)) _ refl in
+            let done = none-refuses block (roomy block size) g (le-refl g) in
+            let sent = send-done R block terms g bits done _ refl in
             absurd (no-call block (received-octets R octets terms bits H) size bits _ _ (le-refl g) sent
-            (take-at (radio R block terms g) (drop g bits) g (radio-length R block terms g) ∙ is))
+            (take-at (radio R block terms g) (drop g bits) g (radio-length R block terms g g done) ∙ is))

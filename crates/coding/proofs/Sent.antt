@@ -20,7 +20,8 @@ use Rattle.matching.specs.Matching.{matched}
 use Rattle.coding.specs.Blocks.{codedBlock, sendable}
 use Rattle.coding.specs.Allocation.{share}
 use Rattle.coding.specs.Joining.{blockSent}
-use Rattle.coding.proofs.Shares.{shares-fit}
+use Rattle.coding.specs.steps.Shares.{Allocated}
+use Rattle.coding.proofs.Shares.{shares-all}
 
 -- ---- own bits, in order
 
@@ -75,14 +76,14 @@ module _ (R : List ℕ) (p : Plan) (k : PlanFields R p) where
     unfolding blockSent matched
     length-block bits r = length-list _ _
 
-    pub share-fits : (r at e : ℕ) → r < p .blocks → at ≡ sumBelow r (λ i. share terms g (blocks R (p .bits)) i .0)
+    pub share-fits : Allocated terms g (p .blocks) → (r at e : ℕ) → r < p .blocks → at ≡ sumBelow r (λ i. share terms g (blocks R (p .bits)) i .0)
         → e ≡ share terms g (blocks R (p .bits)) r .0 → at + e ≤ g
     unfolding sumBelow
-    share-fits r at e h a q =
+    share-fits given r at e h a q =
         let c = blocks R (p .bits) in
         let f : ℕ → ℕ = λ i. share terms g c i .0 in
         let within : suc r ≤ c = omega (arith, k .blocks-is) in
-        omega (arith, sum-mono f (suc r) c within, shares-fit terms g c, a, q)
+        omega (arith, sum-mono f (suc r) c within, shares-all terms g c (rw (k .blocks-is) at given), a, q)
 
     pub share-turn : (r at e : ℕ) → at ≡ sumBelow r (λ i. share terms g (blocks R (p .bits)) i .0)
         → e ≡ share terms g (blocks R (p .bits)) r .0 → at + e ≡ sumBelow (r + 1) (λ i. share terms g (blocks R (p .bits)) i .0)

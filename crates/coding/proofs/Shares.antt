@@ -1,32 +1,54 @@
--- The blocks' shares fit into the allocation.
-use mathlib.Core.Path.{_≡_, _∙_}
+-- The blocks' shares add up to the allocation.
+use mathlib.Core.Path.{_≡_, refl, sym, ap, _∙_}
 use mathlib.Core.Bool.{false, not, _||_}
-use Prim.Native.Nat.{ℕ, _*_, _/_, _%_, _≤_, _<_}
-use native.Mathlib.Nat.{div-mul-le-self, mul-comm, mul-assoc, mul-le-mul-left}
+use Prim.Native.Nat.{ℕ, _+_, _*_, _/_, _%_, _≤_, _<_}
+use native.Mathlib.Nat.{div-add-mod, div-add-mod', le-mul-of-pos-right}
 use native.Mathlib.Omega.{arith}
-use borrow.Author.Tests.{ltb-false, not-false}
+use borrow.Author.Tests.{eqb-true, ltb-false, lt-ltb, le-ltb, not-false}
 use lib.Dec.{eqb, ltb}
 use Rattle.bits.specs.Counts.{usable, symbolPlacesOf, codedBitsOf, placeBits}
 use Rattle.bits.specs.Ranges.{sumBelow}
+use Rattle.bits.specs.declared.count.CodedBits.{CodedBits}
+use Rattle.bits.specs.declared.count.SymbolPlaces.{SymbolPlaces}
 use Rattle.bits.specs.declared.count.Terms.{Terms}
 use Rattle.bits.proofs.Ranges.{neither}
-use Rattle.bits.proofs.Sums.{sum-const}
+use Rattle.bits.proofs.Rounding.{ceil-more}
+use Rattle.bits.proofs.Sums.{sum-same, sum-times}
 use Rattle.bits.proofs.Terms.{usable-is}
-use Rattle.coding.specs.Allocation.{misallocated, symbolPlaces, share}
+use Rattle.cutting.specs.Plan.{ownBits}
+use Rattle.cutting.proofs.Rounding.{own-sum}
+use Rattle.coding.specs.Allocation.{misallocated, symbolPlaces, spare, share}
 use Rattle.coding.specs.steps.Shares.{Allocated}
 
-module _ (terms : Terms) (g c : ℕ) where
-  pub shares-fit : sumBelow c (λ r. share terms g c r .0) ≤ g
-  unfolding share codedBitsOf symbolPlaces symbolPlacesOf
-  shares-fit =
-      let p = placeBits terms in
-      let q = g / p / c in
-      let all : sumBelow c (λ r. p * q) ≡ c * (p * q) = sum-const c (p * q) in
-      let one : q * c ≤ g / p = div-mul-le-self (g / p) c in
-      let two : g / p * p ≤ g = div-mul-le-self g p in
-      let three : p * (q * c) ≤ p * (g / p) = mul-le-mul-left p one in
-      let turned : c * (p * q) ≡ p * (q * c) = mul-comm c (p * q) ∙ mul-assoc p q c in
-      omega (arith, all, turned, three, mul-comm p (g / p), two)
+-- symbol places are shared out among the blocks as transport bits are
+pub share-places : (terms : Terms) (g c r : ℕ) → share terms g c r .0 ≡ placeBits terms * ownBits (symbolPlaces terms g .0) c r
+unfolding share spare codedBitsOf ownBits
+share-places terms g c r = refl
+
+-- as the code counts them: rounded down, and one more in the first blocks
+module _ (terms : Terms) (g c r : ℕ) (all : SymbolPlaces) (is : all ≡ symbolPlaces terms g) (some : 0 < c) (e : CodedBits) (n : ℕ)
+    (made : e ≡ codedBitsOf terms (record { 0 = n })) where
+  pub share-more : n ≡ all .0 / c + 1 → r < all .0 % c → e ≡ share terms g c r
+  unfolding share spare
+  share-more q h = rw (made, q, sym is, lt-ltb r (all .0 % c) h, ceil-more (all .0) c some (omega arith))
+
+  pub share-less : n ≡ all .0 / c → all .0 % c ≤ r → e ≡ share terms g c r
+  unfolding share spare
+  share-less q h = rw (made, q, sym is, le-ltb r (all .0 % c) h)
+
+-- and there are as many
+pub places-more : (n c r : ℕ) → 0 < c → r < n % c → n / c + 1 ≤ n
+places-more n c r some h = omega (arith, div-add-mod' n c, le-mul-of-pos-right (n / c) some)
+
+-- "the shares now add up to G"
+pub shares-all : (terms : Terms) (g c : ℕ) → Allocated terms g c → sumBelow c (λ r. share terms g c r .0) ≡ g
+unfolding symbolPlaces symbolPlacesOf
+shares-all terms g c h =
+    let p = placeBits terms in
+    sum-same c (λ r. share terms g c r .0) (λ r. p * ownBits (g / p) c r) (λ r l. share-places terms g c r)
+    ∙ sum-times c p (ownBits (g / p) c)
+    ∙ ap (λ (n : ℕ). p * n) (own-sum (g / p) c (h .blocks))
+    ∙ omega (arith, div-add-mod g p, h .whole)
 
 -- an allocation that is not refused with 8
 pub allocated : (terms : Terms) (g c : ℕ) → misallocated terms g ≡ false → 0 < c → Allocated terms g c
@@ -37,5 +59,6 @@ allocated terms g c e some =
     record {
       usable = usable-is terms (not-false (usable terms) (first .0));
       most = ltb-false 65536 g (first .1);
+      whole = eqb-true (g % placeBits terms) 0 (not-false (eqb (g % placeBits terms) 0) (last .1));
       blocks = some;
     }

@@ -1,8 +1,8 @@
--- Step 5 of document 01: the allocation, N_L, Q_m and G, and what each of c blocks is given of it.
-use mathlib.Core.Bool.{Bool, not, _||_}
+-- Step 5 of document 01 as CR 1 has it: the allocation, N_L, Q_m and G, and what each of c blocks is given of it.
+use mathlib.Core.Bool.{Bool, cond, not, _||_}
 use Prim.Native.Nat.{ℕ, _/_, _%_}
 use lib.Dec.{eqb, ltb}
-use Rattle.bits.specs.Counts.{usable, placeBits, symbolPlacesOf, codedBitsOf}
+use Rattle.bits.specs.Counts.{ceil, usable, placeBits, symbolPlacesOf, codedBitsOf}
 use Rattle.bits.specs.declared.count.CodedBits.{CodedBits}
 use Rattle.bits.specs.declared.count.SymbolPlaces.{SymbolPlaces}
 use Rattle.bits.specs.declared.count.Terms.{Terms}
@@ -15,6 +15,11 @@ misallocated terms g = not (usable terms) || ltb 65536 g || not (eqb (g % placeB
 unfoldable pub symbolPlaces : Terms → ℕ → SymbolPlaces
 symbolPlaces terms g = symbolPlacesOf terms (record { 0 = g })
 
--- "Every block is given E = N_L·Q_m·floor(G'/C) bits": block r's share. The index decides nothing here; a later request gives some blocks more.
+-- "γ = G' mod C": the symbol places that are left where every block has floor(G'/C)
+unfoldable pub spare : Terms → ℕ → ℕ → SymbolPlaces
+spare terms g c = record { 0 = symbolPlaces terms g .0 % c }
+
+-- "blocks r < γ have E_r = N_L·Q_m·ceil(G'/C) and the rest have floor": block r's share
 unfoldable pub share : Terms → ℕ → ℕ → ℕ → CodedBits
-share terms g c r = codedBitsOf terms (record { 0 = symbolPlaces terms g .0 / c })
+share terms g c r =
+    codedBitsOf terms (record { 0 = cond (ltb r (spare terms g c .0)) (ceil (symbolPlaces terms g .0) c) (symbolPlaces terms g .0 / c) })

@@ -1,8 +1,6 @@
--- The radio bits (document 01, steps 5 and 6): the blocks' bits one behind the other, and zeros in what is left. R is the profile's record,
--- b is B, bits the transport bits.
+-- The radio bits (document 01, steps 5 and 6): the blocks' bits one behind the other. R is the profile's record, b is B, bits the transport bits.
 use mathlib.Core.List.{List, [], _++_}
-use Prim.Native.Nat.{ℕ, zero, suc, _-_}
-use lib.ListN.{length, replicate}
+use Prim.Native.Nat.{ℕ, zero, suc}
 use Rattle.bits.specs.declared.count.Terms.{Terms}
 use Rattle.cutting.specs.Plan.{blocks}
 use Rattle.matching.specs.Matching.{matched}
@@ -18,10 +16,6 @@ unfoldable pub joined : ℕ → (ℕ → List ℕ) → List ℕ
 joined zero f = []
 joined (suc n) f = joined n f ++ f n
 
--- "The G − C·E places left at the end hold 0"
-unfoldable pub padded : ℕ → List ℕ → List ℕ
-padded g bits = bits ++ replicate (g - length bits) 0
-
--- what transport bits are sent as
+-- what transport bits are sent as: nothing is left at the end, since the shares add up to G
 unfoldable pub radioBits : List ℕ → ℕ → List ℕ → Terms → ℕ → List ℕ
-radioBits R b bits terms g = padded g (joined (blocks R b) (blockSent R b bits terms g))
+radioBits R b bits terms g = joined (blocks R b) (blockSent R b bits terms g)

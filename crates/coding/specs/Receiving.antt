@@ -1,5 +1,5 @@
 -- Receiving (document 01, "From block to radio bits"): "Where E ≥ N in every block it accepts exactly the bits that sending some transport
--- block of that length gives". R is the profile's record, bits the received bits, whose number is G.
+-- block of that length gives"; E is each block's own share (CR 1). R is the profile's record, bits the received bits, whose number is G.
 use mathlib.Core.Bool.{Bool}
 use mathlib.Core.List.{List}
 use Prim.Native.Nat.{ℕ, _*_, _^_}

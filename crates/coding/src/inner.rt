@@ -36,14 +36,17 @@ fn is_misallocated(terms: Terms, g: CodedBits) -> bool
     g.0 % place_bits(terms) != 0
 }
 
-// Block r's share of g bits, where there are c blocks.
+// Block r's share of g bits, where there are c blocks: the symbol places that are left where all have as many go to the first blocks, one to each.
 pub fn share_of(terms: Terms, g: CodedBits, c: usize, r: usize) -> CodedBits
     requires { ⌜ Allocated terms (g .0) c ⌝ }
     ensures { λ e. ⌜ e ≡ share terms (g .0) c r ⌝ }
 {
     let all = symbol_places(g, terms);
-    let each = SymbolPlaces(all.0 / c);
-    coded_bits(each, terms)
+    let each = all.0 / c;
+    if r < all.0 % c {
+        return coded_bits(SymbolPlaces(each + 1), terms);
+    }
+    coded_bits(SymbolPlaces(each), terms)
 }
 
 // N of block r: its coded places less its filler, which is its places less its own bits.

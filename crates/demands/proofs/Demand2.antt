@@ -1,6 +1,6 @@
 -- The second demand, sentence by sentence, over the promises of the calls.
 use mathlib.Core.Path.{_≡_, sym, _∙_, subst}
-use mathlib.Core.Bool.{true}
+use mathlib.Core.Bool.{true, false}
 use mathlib.Core.List.{List}
 use mathlib.Core.Logic.{_⊎_, inl}
 use Prim.Native.Nat.{ℕ, _-_, _*_, _≤_, _<_}
@@ -9,6 +9,7 @@ use native.Mathlib.Omega.{arith}
 use denote.Ref.{RefT, now, ptr}
 use lib.ListN.{length, take}
 use Rattle.bits.specs.Counts.{ceil}
+use Rattle.bits.specs.Ranges.{sumBelow}
 use Rattle.bits.specs.declared.number.Written.{Written}
 use Rattle.bits.specs.declared.count.Terms.{Terms}
 use Rattle.bits.proofs.Answers.{when-done}
@@ -17,8 +18,11 @@ use Rattle.profile.specs.Record.{kb, t, z}
 use Rattle.cutting.specs.Plan.{blockBits, blocks, sizeIndex}
 use Rattle.cutting.specs.Promises.{planNumber}
 use Rattle.cutting.proofs.Plans.{plan-cut}
+use Rattle.coding.specs.Allocation.{misallocated, share}
 use Rattle.coding.specs.Promises.{sendNumber, Sent, Received}
-use Rattle.coding.proofs.Answers.{send-planned}
+use Rattle.coding.specs.steps.Shares.{Allocated}
+use Rattle.coding.proofs.Shares.{allocated, shares-all}
+use Rattle.coding.proofs.Answers.{send-planned, send-allocated}
 use Rattle.coding.proofs.RoundTrip.{sent-front}
 use Rattle.shelf.specs.Shelf.{privateShelf}
 use Rattle.shelf.specs.Lookup.{lookupNumber, lookupRecord}
@@ -36,16 +40,19 @@ module _ {R block : List ℕ} {terms : Terms} {g : ℕ} {out : List ℕ} {r : Wr
   passed : planNumber R (length block) ≡ 0
   passed = send-planned R block terms g (length out) (sym (s .number) ∙ done)
 
+  given : Allocated terms g (blocks R (blockBits (length block)))
+  given = send-allocated R block terms g (length out) (sym (s .number) ∙ done)
+
   -- where sending answers 0 (when it does is in Demand1), G octets are written, and they follow the six steps
   pub sends : (r .count ≡ g) × (Steps R block terms g (take g o))
   sends = (
     s .count ∙ when-done (sendNumber R block terms g (length out)) g 0 (sym (s .number) ∙ done),
-    subst (Steps R block terms g) (sym (sent-front s done)) (steps R block passed terms g),
+    subst (Steps R block terms g) (sym (sent-front s done)) (steps R block passed terms g given),
   )
 
   -- and no other bits follow them
   pub sends-only : (bits : List ℕ) → Steps R block terms g bits → bits ≡ take g o
-  sends-only bits h = steps-only R block passed terms g bits h ∙ sym (sent-front s done)
+  sends-only bits h = steps-only R block passed terms g given bits h ∙ sym (sent-front s done)
 
 -- the same over the hosted call, with the record that was found
 module _ {private public : List ℕ} {t p : ℕ} {block : List ℕ} {terms : Terms} {g : ℕ} {out : List ℕ} {r : Written} {o : List ℕ}
@@ -55,6 +62,10 @@ module _ {private public : List ℕ} {t p : ℕ} {block : List ℕ} {terms : Ter
 
   pub hosted-sends-only : (bits : List ℕ) → Steps (lookupRecord private public t p) block terms g bits → bits ≡ take g o
   hosted-sends-only bits s = sends-only (hosted-promised h (inl done)) done bits s
+
+-- "the shares now add up to G" (document 02, CR 1): in every allocation that 8 does not refuse, among any blocks
+pub shares-are-all : (terms : Terms) (g c : ℕ) → misallocated terms g ≡ false → 0 < c → sumBelow c (λ r. share terms g c r .0) ≡ g
+shares-are-all terms g c right some = shares-all terms g c (allocated terms g c right some)
 
 -- "Kmax is kb times the largest z", "the smallest z with kb·z ≥ ceil(B/C)": the last of an accepted record's sizes is the largest, and the one that is
 -- chosen is enough and the smallest that is

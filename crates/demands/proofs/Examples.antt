@@ -27,11 +27,11 @@ use Rattle.cutting.proofs.Transported.{generator-24}
 use Rattle.parity.specs.Matrix.{square, spread, bitAt, rowEven, checks}
 use Rattle.parity.specs.Coded.{withParity, checksWith, coded}
 use Rattle.matching.specs.Matching.{kept, matched}
-use Rattle.coding.specs.Allocation.{misallocated, symbolPlaces, share}
+use Rattle.coding.specs.Allocation.{misallocated, symbolPlaces, spare, share}
 use Rattle.coding.specs.Blocks.{codedBlock, sendable}
 use Rattle.coding.specs.Receiving.{someWithoutRoom}
 use Rattle.coding.specs.Promises.{tooFewPlaces, sendNumber, Sent, notOctets, receiveNumber, Received}
-use Rattle.coding.specs.Joining.{blockSent, joined, padded, radioBits}
+use Rattle.coding.specs.Joining.{blockSent, joined, radioBits}
 use Rattle.coding.specs.RoundTrip.{Roomy}
 use Rattle.coding.specs.steps.Receiving.{shareStart, ownReceived, gathered, Receivable}
 use Rattle.coding.specs.steps.Numbers.{cutNumber}
@@ -41,9 +41,9 @@ use Rattle.coding.proofs.Received.{block-gathered}
 use Rattle.shelf.specs.Promises.{HostedReceived}
 use Rattle.shelf.specs.Lookup.{isEntry, has, entryOf, recordOf, lookupNumber, lookupRecord}
 use Rattle.advice.specs.Promises.{LeastRoom}
-use Rattle.advice.specs.steps.Counting.{mostSendable}
+use Rattle.advice.specs.steps.Counting.{placesFor, placesForAll}
 use Rattle.advice.proofs.Numbers.{last-done}
-use Rattle.demands.specs.Worked.{toy, p10Octets, toyTerms, toySent, cases}
+use Rattle.demands.specs.Worked.{toy, p10Octets, spareOctets, toyTerms, toySent, cases}
 use Rattle.demands.proofs.Worked.{worked}
 use Rattle.checksum.specs.Crc as crc
 use Rattle.checksum.specs.steps.Testing as testing
@@ -118,7 +118,7 @@ abbrev pub receivingDue : Receiving → ℕ
 receivingDue c = c .due
 
 pub receivings-answered : map receiving receivings ≡ map receivingDue receivings
-unfolding receivings bent toy receiveNumber answered notOctets misallocated usable tooFewPlaces share symbolPlaces placeBits symbolPlacesOf codedBitsOf someOver someWithoutRoom sendable numberAt
+unfolding receivings bent toy receiveNumber answered notOctets misallocated usable tooFewPlaces share spare symbolPlaces placeBits symbolPlacesOf codedBitsOf someOver someWithoutRoom sendable numberAt
     sumBelow allBelow anyBelow firstBelow kb m t z offset rows columns tableSize table entry headerRight rises sizesRight offsetDue offsetsRight endsRight shiftRight tableRight wellFormed filled filledBetween firstColumn nextDue
     nextColumn staircase staircases ceil blockBits kmax blocks ownBits sizeIndexFor sizeIndex places filler
 receivings-answered = refl
@@ -185,29 +185,29 @@ roomy : (g : ℕ) → Roomy toy 1 toyTerms g → Room g
 roomy g h = record { direct = h; hosted = subst (λ (R : List ℕ). Roomy R 1 toyTerms g) (sym looked-up) h }
 
 pub room-128 : Room 128
-unfolding misallocated usable tooFewPlaces someWithoutRoom sendable share symbolPlaces placeBits symbolPlacesOf codedBitsOf toy numberAt anyBelow firstBelow kb m t z rows columns ceil blockBits kmax blocks ownBits
+unfolding misallocated usable tooFewPlaces someWithoutRoom sendable share spare symbolPlaces placeBits symbolPlacesOf codedBitsOf toy numberAt anyBelow firstBelow kb m t z rows columns ceil blockBits kmax blocks ownBits
     sizeIndexFor sizeIndex places filler
 room-128 = roomy 128 (record { taken = planned; allocation = refl; enough = refl; room = refl })
 
 pub room-130 : Room 130
-unfolding misallocated usable tooFewPlaces someWithoutRoom sendable share symbolPlaces placeBits symbolPlacesOf codedBitsOf toy numberAt anyBelow firstBelow kb m t z rows columns ceil blockBits kmax blocks ownBits
+unfolding misallocated usable tooFewPlaces someWithoutRoom sendable share spare symbolPlaces placeBits symbolPlacesOf codedBitsOf toy numberAt anyBelow firstBelow kb m t z rows columns ceil blockBits kmax blocks ownBits
     sizeIndexFor sizeIndex places filler
 room-130 = roomy 130 (record { taken = planned; allocation = refl; enough = refl; room = refl })
 
 pub room-256 : Room 256
-unfolding misallocated usable tooFewPlaces someWithoutRoom sendable share symbolPlaces placeBits symbolPlacesOf codedBitsOf toy numberAt anyBelow firstBelow kb m t z rows columns ceil blockBits kmax blocks ownBits
+unfolding misallocated usable tooFewPlaces someWithoutRoom sendable share spare symbolPlaces placeBits symbolPlacesOf codedBitsOf toy numberAt anyBelow firstBelow kb m t z rows columns ceil blockBits kmax blocks ownBits
     sizeIndexFor sizeIndex places filler
 room-256 = roomy 256 (record { taken = planned; allocation = refl; enough = refl; room = refl })
 
 -- ---- a reception that is accepted: the 128 bits of P10
 
 sent-128 : radioBits toy (blockBits 1) (transport (0x01 ∷ [])) toyTerms 128 ≡ unpacked p10Octets
-unfolding cases toySent
-sent-128 = ap (λ (l : List (List ℕ)). drop 3 (getD l 9 [])) worked
+unfolding cases toySent listBelow blocks ceil kmax kb t z toy numberAt blockBits
+sent-128 = ap (λ (l : List (List ℕ)). drop 18 (getD l 9 [])) worked
 
-sent-130 : radioBits toy (blockBits 1) (transport (0x01 ∷ [])) toyTerms 130 ≡ unpacked p10Octets ++ (0 ∷ 0 ∷ [])
-unfolding cases toySent
-sent-130 = ap (λ (l : List (List ℕ)). drop 3 (getD l 10 [])) worked
+sent-130 : radioBits toy (blockBits 1) (transport (0x01 ∷ [])) toyTerms 130 ≡ take 130 (unpacked spareOctets)
+unfolding cases toySent listBelow blocks ceil kmax kb t z toy numberAt blockBits
+sent-130 = ap (λ (l : List (List ℕ)). drop 18 (getD l 10 [])) worked
 
 -- a call of `send` that keeps its promise
 abbrev answerOf : ℕ → ℕ → Written
@@ -274,7 +274,7 @@ unfoldable pub ones : List ℕ
 ones = replicate 128 1
 
 ones-gathered : testing.checks 24 crc.gen24A (gathered toy (blockBits 1) toyTerms ones) ≡ false
-unfolding ones toy gathered ownReceived shareStart joined share symbolPlaces placeBits symbolPlacesOf codedBitsOf numberAt digits readOn valueOf sumBelow firstBelow anyBelow reduce divideOn remainder
+unfolding ones toy gathered ownReceived shareStart joined share spare symbolPlaces placeBits symbolPlacesOf codedBitsOf numberAt digits readOn valueOf sumBelow firstBelow anyBelow reduce divideOn remainder
     checksum attached kb m t z rows columns ceil blockBits kmax blocks ownBits testing.checks
 ones-gathered = refl
 
@@ -299,19 +299,19 @@ module _ (bits : List ℕ) (h : Roomy toy 1 toyTerms (length bits)) (none : some
 unfoldable pub turned : List ℕ
 turned = set (unpacked p10Octets) 7 1
 
--- "zeros at the end": with two bits more, the last of which is 1
-unfoldable pub ended : List ℕ
-ended = unpacked p10Octets ++ (0 ∷ 1 ∷ [])
+-- "equal copies", of a spare symbol too: G 130 gives the first block ten bits, of which the last is turned over
+unfoldable pub spared : List ℕ
+spared = set (take 130 (unpacked spareOctets)) 9 1
 
 turned-gathered : gathered toy (blockBits 1) toyTerms turned ≡ transport (0x01 ∷ [])
-unfolding turned p10Octets toy gathered ownReceived shareStart joined share symbolPlaces placeBits symbolPlacesOf codedBitsOf numberAt digits unpacked readOn valueOf sumBelow firstBelow anyBelow reduce divideOn
+unfolding turned p10Octets toy gathered ownReceived shareStart joined share spare symbolPlaces placeBits symbolPlacesOf codedBitsOf numberAt digits unpacked readOn valueOf sumBelow firstBelow anyBelow reduce divideOn
     remainder checksum attached transport kb m t z rows columns ceil blockBits kmax blocks ownBits
 turned-gathered = refl
 
-ended-gathered : gathered toy (blockBits 1) toyTerms ended ≡ transport (0x01 ∷ [])
-unfolding ended p10Octets toy gathered ownReceived shareStart joined share symbolPlaces placeBits symbolPlacesOf codedBitsOf numberAt digits unpacked readOn valueOf sumBelow firstBelow anyBelow reduce divideOn
+spared-gathered : gathered toy (blockBits 1) toyTerms spared ≡ transport (0x01 ∷ [])
+unfolding spared spareOctets toy gathered ownReceived shareStart joined share spare symbolPlaces placeBits symbolPlacesOf codedBitsOf numberAt digits unpacked readOn valueOf sumBelow firstBelow anyBelow reduce divideOn
     remainder checksum attached transport kb m t z rows columns ceil blockBits kmax blocks ownBits
-ended-gathered = refl
+spared-gathered = refl
 
 pub turned-refused : {buf : List ℕ} {r : Written} {buf' : List ℕ} → 1 ≤ length buf → Received toy 8 toyTerms turned buf r buf' → r .number ≡ 14
 unfolding turned p10Octets digits unpacked someOver
@@ -319,11 +319,11 @@ turned-refused fits v =
     refused-one turned (room-128 .direct) refl turned-gathered
     (λ e. let z : _≡_ {A = ℕ} 0 1 = ap (λ (l : List ℕ). getD l 7 0) (sym (sent-128) ∙ e) in omega arith) fits v
 
-pub ended-refused : {buf : List ℕ} {r : Written} {buf' : List ℕ} → 1 ≤ length buf → Received toy 8 toyTerms ended buf r buf' → r .number ≡ 14
-unfolding ended p10Octets digits unpacked someOver
-ended-refused fits v =
-    refused-one ended (room-130 .direct) refl ended-gathered
-    (λ e. let z : _≡_ {A = ℕ} 0 1 = ap (λ (l : List ℕ). getD l 129 0) (sym sent-130 ∙ e) in omega arith) fits v
+pub spared-refused : {buf : List ℕ} {r : Written} {buf' : List ℕ} → 1 ≤ length buf → Received toy 8 toyTerms spared buf r buf' → r .number ≡ 14
+unfolding spared spareOctets digits unpacked someOver
+spared-refused fits v =
+    refused-one spared (room-130 .direct) refl spared-gathered
+    (λ e. let z : _≡_ {A = ℕ} 0 1 = ap (λ (l : List ℕ). getD l 9 0) (sym sent-130 ∙ e) in omega arith) fits v
 
 -- "equal copies": G 256 gives every block 16 bits, its coded places twice; the last one turned over
 unfoldable pub doubled : List ℕ → List ℕ
@@ -336,11 +336,11 @@ copied = set (unpacked (doubled p10Octets)) 255 1
 sent-256 : radioBits toy (blockBits 1) (transport (0x01 ∷ [])) toyTerms 256 ≡ unpacked (doubled p10Octets)
 unfolding doubled toy p10Octets digits readOn valueOf unpacked numberAt placeBits symbolPlacesOf codedBitsOf sumBelow parityBelow allBelow anyBelow firstBelow reduce divideOn remainder checksum attached blockBits kb m t z
     offset rows columns tableSize table entry ceil kmax blocks ownBits sizeIndexFor sizeIndex places filler square spread bitAt rowEven checks withParity checksWith coded transport ownStart own
-    withFiller systematic codedBlock symbolPlaces share kept listBelow matched blockSent joined padded radioBits
+    withFiller systematic codedBlock symbolPlaces spare share kept listBelow matched blockSent joined radioBits
 sent-256 = refl
 
 copied-gathered : gathered toy (blockBits 1) toyTerms copied ≡ transport (0x01 ∷ [])
-unfolding doubled copied p10Octets toy gathered ownReceived shareStart joined share symbolPlaces placeBits symbolPlacesOf codedBitsOf numberAt digits unpacked readOn valueOf sumBelow firstBelow anyBelow reduce
+unfolding doubled copied p10Octets toy gathered ownReceived shareStart joined share spare symbolPlaces placeBits symbolPlacesOf codedBitsOf numberAt digits unpacked readOn valueOf sumBelow firstBelow anyBelow reduce
     divideOn remainder checksum attached transport kb m t z rows columns ceil blockBits kmax blocks ownBits
 copied-gathered = refl
 
@@ -361,11 +361,38 @@ least-count : blocks toy (blockBits 1) ≡ 16
 unfolding toy numberAt kb t z ceil blockBits kmax blocks
 least-count = refl
 
-least-most : mostSendable toy 1 ≡ 8
-unfolding mostSendable sendable toy numberAt firstBelow anyBelow kb m t z rows columns ceil blockBits kmax blocks ownBits sizeIndexFor sizeIndex places filler
-least-most = refl
+least-places : placesForAll toy (blockBits 1) toyTerms ≡ 64
+unfolding placesForAll placesFor sumBelow placeBits sendable toy numberAt firstBelow anyBelow kb m t z rows columns ceil blockBits kmax blocks ownBits sizeIndexFor sizeIndex places filler
+least-places = refl
 
-pub least-told : LeastRoom toy 1 toyTerms (record { number = 0; bits = record { 0 = 128 }; blocks = 16; share = record { 0 = 8 } })
-unfolding ceil placeBits
+pub least-told : LeastRoom toy 1 toyTerms
+    (record { number = 0; bits = record { 0 = 128 }; blocks = 16; larger = 0; first = record { 0 = 8 }; last = record { 0 = 8 } })
+unfolding share spare symbolPlaces symbolPlacesOf codedBitsOf ceil placeBits
 least-told =
-    last-done toy 1 toyTerms least-cut (rw (least-count, least-most) (omega arith)) _ refl (rw (least-count, least-most)) (rw least-count) (rw least-most)
+    last-done toy 1 toyTerms least-cut (rw least-places (omega arith)) _ refl (rw least-places) (rw least-count) (rw (least-places, least-count)) refl refl
+
+-- with kb 2, m 3 and one z of 3 it is 6 blocks, the first two of 15 bits and the others of 14: 88 are the least
+
+unfoldable pub uneven : List ℕ
+uneven =
+    0x00 ∷ 0x02 ∷ 0x00 ∷ 0x03 ∷ 0x00 ∷ 0x01 ∷ 0x00 ∷ 0x03 ∷ 0x00 ∷ 0x0A
+    ∷ 0x01 ∷ 0xFF ∷ 0x01 ∷ 0x00 ∷ 0xFF ∷ 0x02 ∷ 0x00 ∷ 0x00 ∷ 0x00 ∷ 0x00 ∷ 0xFF ∷ 0x01 ∷ 0x01 ∷ 0xFF ∷ 0x00 ∷ []
+
+uneven-cut : cutNumber uneven 1 toyTerms 0 ≡ 0
+unfolding cutNumber answered uneven numberAt sumBelow allBelow anyBelow kb m t z offset rows columns tableSize table entry headerRight rises sizesRight offsetDue offsetsRight endsRight shiftRight
+    tableRight wellFormed filled filledBetween firstColumn nextDue nextColumn staircase staircases ceil blockBits kmax blocks misallocated usable placeBits
+uneven-cut = refl
+
+uneven-count : blocks uneven (blockBits 1) ≡ 6
+unfolding uneven numberAt kb t z ceil blockBits kmax blocks
+uneven-count = refl
+
+uneven-places : placesForAll uneven (blockBits 1) toyTerms ≡ 44
+unfolding placesForAll placesFor sumBelow placeBits sendable uneven numberAt firstBelow anyBelow kb m t z rows columns ceil blockBits kmax blocks ownBits sizeIndexFor sizeIndex places filler
+uneven-places = refl
+
+pub uneven-told : LeastRoom uneven 1 toyTerms
+    (record { number = 0; bits = record { 0 = 88 }; blocks = 6; larger = 2; first = record { 0 = 16 }; last = record { 0 = 14 } })
+unfolding share spare symbolPlaces symbolPlacesOf codedBitsOf ceil placeBits
+uneven-told =
+    last-done uneven 1 toyTerms uneven-cut (rw uneven-places (omega arith)) _ refl (rw uneven-places) (rw uneven-count) (rw (uneven-places, uneven-count)) refl refl

@@ -1,18 +1,18 @@
 -- What a transport block is sent as follows the six steps of document 01, and no other bits do.
 use mathlib.Core.Path.{_≡_, refl, sym, ap, ap₂, _∙_, subst}
-use mathlib.Core.List.{List, _++_}
-use Prim.Native.Nat.{ℕ, zero, suc, _-_, _*_, _%_, _≤_, _<_}
-use native.Mathlib.Nat.{add-mul, suc-mul, zero-mul}
+use mathlib.Core.List.{List, [], _++_, append-nil}
+use Prim.Native.Nat.{ℕ, suc, _-_, _*_, _%_, _≤_, _<_}
+use native.Mathlib.Nat.{add-mul}
 use native.Mathlib.Omega.{arith}
-use lib.ListN.{length, getD, take, drop, replicate, length-append, length-replicate, take-append-drop}
-use lib.Seq.{drop-at, take-all}
+use lib.ListN.{length, getD, take, drop, replicate, length-append, length-replicate}
+use lib.Seq.{take-all}
 use Rattle.bits.specs.Counts.{symbolPlacesOf, codedBitsOf}
 use Rattle.bits.specs.Ranges.{sumBelow}
 use Rattle.bits.specs.Bits.{withFiller}
 use Rattle.bits.specs.declared.count.Terms.{Terms}
 use Rattle.bits.proofs.Lists.{length-part}
 use Rattle.bits.proofs.Listed.{length-list}
-use Rattle.bits.proofs.Sums.{sum-mono}
+use Rattle.bits.proofs.Sums.{sum-same, sum-mono}
 use Rattle.checksum.specs.Crc.{attached}
 use Rattle.profile.specs.Record.{kb, m, rows, columns, z, table}
 use Rattle.profile.proofs.Shape.{columns-is}
@@ -29,11 +29,13 @@ use Rattle.parity.proofs.Ready.{table-stairs}
 use Rattle.parity.proofs.Solve.{Solvable}
 use Rattle.matching.specs.Matching.{kept, matched}
 use Rattle.coding.specs.Blocks.{codedBlock}
-use Rattle.coding.specs.Allocation.{symbolPlaces, share}
-use Rattle.coding.specs.Joining.{blockSent, joined, padded, radioBits}
-use Rattle.coding.proofs.Joining.{joined-part, joined-same, joined-cut}
+use Rattle.coding.specs.Allocation.{symbolPlaces, spare, share}
+use Rattle.coding.specs.Joining.{blockSent, joined, radioBits}
+use Rattle.coding.specs.steps.Shares.{Allocated}
+use Rattle.coding.proofs.Shares.{shares-all}
+use Rattle.coding.proofs.Joining.{length-joined, joined-part, joined-same, joined-cut}
 use Rattle.coding.proofs.RoundTrip.{sent-length, sent-bits}
-use Rattle.demands.specs.Steps.{blockCount, blockPlaces, blockIndex, blockShare, Word, Steps}
+use Rattle.demands.specs.Steps.{blockCount, blockPlaces, blockIndex, allPlaces, blockShare, Word, Steps}
 
 module _ (R block : List ℕ) (taken : planNumber R (length block) ≡ 0) where
   abbrev u : List ℕ
@@ -129,40 +131,39 @@ module _ (R block : List ℕ) (taken : planNumber R (length block) ≡ 0) where
 
   -- ---- the radio bits
 
-  module _ (terms : Terms) (g : ℕ) where
-    abbrev e : ℕ
+  module _ (terms : Terms) (g : ℕ) (given : Allocated terms g (blocks R (blockBits (length block)))) where
+    abbrev e : ℕ → ℕ
     e = blockShare R (length block) terms g
 
     f : ℕ → List ℕ
-    f r = matched (word r) e
+    f r = matched (word r) (e r)
+
+    share-is : (r : ℕ) → share terms g c r .0 ≡ e r
+    unfolding share spare codedBitsOf symbolPlaces symbolPlacesOf allPlaces blockShare blockCount
+    share-is r = refl
 
     block-is : (r : ℕ) → blockSent R b u terms g r ≡ f r
-    unfolding f blockSent share codedBitsOf symbolPlaces symbolPlacesOf blockShare blockCount
-    block-is r = refl
+    unfolding f blockSent
+    block-is r = ap (matched (word r)) (share-is r)
 
-    f-size : (r : ℕ) → length (f r) ≡ e
+    f-size : (r : ℕ) → length (f r) ≡ e r
     unfolding f matched
-    f-size r = length-list e (λ k. getD (kept (word r)) (k % length (kept (word r))) 0)
+    f-size r = length-list (e r) (λ k. getD (kept (word r)) (k % length (kept (word r))) 0)
 
-    f-joined : (n : ℕ) → length (joined n f) ≡ n * e
-    unfolding joined
-    f-joined zero = sym (zero-mul e)
-    f-joined (suc n) = length-append (joined n f) (f n) ∙ omega (arith, f-joined n, f-size n, suc-mul n e)
+    f-joined : (n : ℕ) → length (joined n f) ≡ sumBelow n e
+    f-joined n = length-joined f n ∙ sum-same n (λ r. length (f r)) e (λ r l. f-size r)
 
-    sent-is : radioBits R b u terms g ≡ joined c f ++ replicate (g - c * e) 0
-    unfolding radioBits padded
-    sent-is =
-        let front : joined c (blockSent R b u terms g) ≡ joined c f = joined-same (blockSent R b u terms g) f c (λ r l. block-is r) in
-        ap (λ (l : List ℕ). l ++ replicate (g - length l) 0) front ∙ ap (λ (n : ℕ). joined c f ++ replicate (g - n) 0) (f-joined c)
+    shares : sumBelow c e ≡ g
+    shares = sum-same c e (λ r. share terms g c r .0) (λ r l. sym (share-is r)) ∙ shares-all terms g c given
 
-    block-stretch : (r : ℕ) → r < c → take e (drop (r * e) (radioBits R b u terms g)) ≡ f r
+    sent-is : radioBits R b u terms g ≡ joined c f
+    unfolding radioBits
+    sent-is = joined-same (blockSent R b u terms g) f c (λ r l. block-is r)
+
+    block-stretch : (r : ℕ) → r < c → take (e r) (drop (sumBelow r e) (radioBits R b u terms g)) ≡ f r
     block-stretch r l =
-        let part = joined-part f c r (replicate (g - c * e) 0) l in
-        ap (λ (s : List ℕ). take e (drop (r * e) s)) sent-is
-        ∙ ap₂ (λ (x y : ℕ). take x (drop y (joined c f ++ replicate (g - c * e) 0))) (sym (f-size r)) (sym (f-joined r)) ∙ part
-
-    zeros-last : drop (c * e) (radioBits R b u terms g) ≡ replicate (g - c * e) 0
-    zeros-last = ap (drop (c * e)) sent-is ∙ drop-at (joined c f) (replicate (g - c * e) 0) (c * e) (f-joined c)
+        ap (λ (s : List ℕ). take (e r) (drop (sumBelow r e) s)) (sent-is ∙ sym (append-nil (joined c f)))
+        ∙ ap₂ (λ (x y : ℕ). take x (drop y (joined c f ++ []))) (sym (f-size r)) (sym (f-joined r)) ∙ joined-part f c r [] l
 
     pub steps : Steps R block terms g (radioBits R b u terms g)
     unfolding blockCount blockBits transport attached mine ownStart f
@@ -176,28 +177,19 @@ module _ (R block : List ℕ) (taken : planNumber R (length block) ≡ 0) where
           word = word;
           coded = word-coded;
           stretch = block-stretch;
-          rest = zeros-last;
-          long = sent-length R b u terms g;
+          all = shares;
+          long = sent-length R b u terms g given;
           single = sent-bits R b u terms g (transport-bits block);
         }
 
     -- ---- no other bits do
-
-    shares : (n : ℕ) → sumBelow n (λ (r : ℕ). e) ≡ n * e
-    unfolding sumBelow
-    shares zero = sym (zero-mul e)
-    shares (suc n) = omega (arith, shares n, suc-mul n e)
 
     pub steps-only : (bits : List ℕ) → Steps R block terms g bits → bits ≡ radioBits R b u terms g
     unfolding blockCount transport attached f
     steps-only bits s =
         let own-word : (r : ℕ) → r < c → s .word r ≡ word r =
         λ r l. word-only r (s .word r) l (subst (λ (v : List ℕ). Word R (length block) (own R b v r) (s .word r)) (s .appended) (s .coded r l)) in
-        let each : (r : ℕ) → r < c → take e (drop (sumBelow r (λ (k : ℕ). e)) bits) ≡ f r =
-        λ r l. ap (λ (n : ℕ). take e (drop n bits)) (shares r) ∙ s .stretch r l ∙ ap (λ (w : List ℕ). matched w e) (own-word r l) in
-        sym (take-append-drop (c * e) bits)
-        ∙ ap₂ (λ (x y : List ℕ). x ++ y)
-        (ap (λ (n : ℕ). take n bits) (sym (shares c)) ∙ sym (joined-cut (λ (r : ℕ). e) bits c)
-        ∙ joined-same (λ r. take e (drop (sumBelow r (λ (k : ℕ). e)) bits)) f c each)
-        (s .rest)
-        ∙ sym sent-is
+        let each : (r : ℕ) → r < c → take (e r) (drop (sumBelow r e) bits) ≡ f r =
+        λ r l. s .stretch r l ∙ ap (λ (w : List ℕ). matched w (e r)) (own-word r l) in
+        sym (take-all (sumBelow c e) bits (omega (arith, s .long, shares))) ∙ sym (joined-cut e bits c)
+        ∙ joined-same (λ r. take (e r) (drop (sumBelow r e) bits)) f c each ∙ sym sent-is

@@ -2,12 +2,14 @@
 -- sent as. R is the profile's record. No parity bits are searched for here, and no stretch is joined; the checksum, cutting, the matrix and rate
 -- matching are the definitions that sending itself is made of.
 use mathlib.Core.Path.{_≡_}
-use mathlib.Core.Bool.{true}
+use mathlib.Core.Bool.{true, cond}
 use mathlib.Core.List.{List, _++_}
-use Prim.Native.Nat.{ℕ, _+_, _-_, _*_, _/_, _≤_, _<_}
+use Prim.Native.Nat.{ℕ, _+_, _-_, _*_, _/_, _%_, _≤_, _<_}
+use lib.Dec.{ltb}
 use lib.ListN.{length, getD, take, drop, replicate}
 use Rattle.bits.specs.Bits.{AreBits, digits, unpacked}
-use Rattle.bits.specs.Counts.{placeBits}
+use Rattle.bits.specs.Counts.{ceil, placeBits}
+use Rattle.bits.specs.Ranges.{sumBelow}
 use Rattle.bits.specs.declared.count.Terms.{Terms}
 use Rattle.checksum.specs.Crc.{checksum, gen24A}
 use Rattle.profile.specs.Record.{z, rows, columns, table}
@@ -17,7 +19,7 @@ use Rattle.parity.specs.Matrix.{checks}
 use Rattle.matching.specs.Matching.{matched}
 use Rattle.coding.specs.Joining.{joined}
 
--- C and K of a block of so many octets, which of the record's sizes is chosen for it, and "E = N_L·Q_m·floor(G'/C)"
+-- C and K of a block of so many octets, and which of the record's sizes is chosen for it
 unfoldable pub blockCount : List ℕ → ℕ → ℕ
 blockCount R octets = blocks R (blockBits octets)
 
@@ -27,8 +29,14 @@ blockPlaces R octets = places R (blockBits octets)
 unfoldable pub blockIndex : List ℕ → ℕ → ℕ
 blockIndex R octets = sizeIndex R (blockBits octets)
 
-unfoldable pub blockShare : List ℕ → ℕ → Terms → ℕ → ℕ
-blockShare R octets terms g = placeBits terms * (g / placeBits terms / blockCount R octets)
+-- G', and block r's share: "with γ = G' mod C, blocks r < γ have E_r = N_L·Q_m·ceil(G'/C) and the rest have floor" (document 02, CR 1)
+unfoldable pub allPlaces : Terms → ℕ → ℕ
+allPlaces terms g = g / placeBits terms
+
+unfoldable pub blockShare : List ℕ → ℕ → Terms → ℕ → ℕ → ℕ
+blockShare R octets terms g r =
+    placeBits terms
+    * cond (ltb r (allPlaces terms g % blockCount R octets)) (ceil (allPlaces terms g) (blockCount R octets)) (allPlaces terms g / blockCount R octets)
 
 -- 3 and 4. w is the coded block of these own bits: "Places past a block's own bits, at its end, are filler"; "K systematic places and then m·z parity
 -- bits. It must check with filler read as 0. Filler places stay marked."
@@ -50,14 +58,13 @@ pub record Steps (R block : List ℕ) (terms : Terms) (g : ℕ) (bits : List ℕ
   -- 3 and 4, of each block
   pub word : ℕ → List ℕ
   pub coded : (r : ℕ) → r < blockCount R (length block) → Word R (length block) (own R (blockBits (length block)) transport r) (word r)
-  -- 5. "Every block is given E .. bits"; 6. they "are its coded places in order from the first, filler skipped, starting again at the first after the
-  -- last", and go into its own stretch
+  -- 5 and 6. A block's E_r bits "are its coded places in order from the first, filler skipped, starting again at the first after the last", and go
+  -- into its own stretch, behind those of the blocks before it
   pub stretch : (r : ℕ) → r < blockCount R (length block)
-      → take (blockShare R (length block) terms g) (drop (r * blockShare R (length block) terms g) bits)
-      ≡ matched (word r) (blockShare R (length block) terms g)
-  -- 5. "The G − C·E places left at the end hold 0."
-  pub rest : drop (blockCount R (length block) * blockShare R (length block) terms g) bits
-      ≡ replicate (g - blockCount R (length block) * blockShare R (length block) terms g) 0
-  -- and they are G, each 0 or 1
+      → take (blockShare R (length block) terms g r) (drop (sumBelow r (blockShare R (length block) terms g)) bits)
+      ≡ matched (word r) (blockShare R (length block) terms g r)
+  -- 5. "the shares now add up to G" (CR 1)
+  pub all : sumBelow (blockCount R (length block)) (blockShare R (length block) terms g) ≡ g
+  -- and the bits are G, each 0 or 1
   pub long : length bits ≡ g
   pub single : AreBits bits

@@ -1,8 +1,9 @@
--- The cases marked P of document 01, "Small profile and worked numbers", and the one after P10, in one table: what the definitions compute, and what
--- is due.
+-- The cases marked P of document 01, "Small profile and worked numbers", and those of CR 1, in one table: what the definitions compute, and what is due.
 use mathlib.Core.List.{List, [], _∷_, _++_}
 use Prim.Native.Nat.{ℕ}
+use lib.ListN.{take, replicate}
 use Rattle.bits.specs.Bits.{unpacked}
+use Rattle.bits.specs.Ranges.{listBelow}
 use Rattle.bits.specs.declared.count.Terms.{Terms}
 use Rattle.checksum.specs.Crc.{checksum, gen24A, gen16, gen8}
 use Rattle.profile.specs.Record.{z, rows, columns, table}
@@ -23,6 +24,23 @@ unfoldable pub p10Octets : List ℕ
 p10Octets =
     0x00 ∷ 0x00 ∷ 0x00 ∷ 0x7B ∷ 0xB7 ∷ 0x00 ∷ 0x7B ∷ 0xB7 ∷ 0x7B ∷ 0x00 ∷ 0xCC ∷ 0x00 ∷ 0xCC ∷ 0xCC ∷ 0xB7 ∷ 0xCC ∷ []
 
+-- CR 1, packed into octets, the last one filled up with zeros: octet 01 with G 130, and octet C0 with G 130, 134 and 126
+unfoldable pub spareOctets : List ℕ
+spareOctets =
+    0x00 ∷ 0x00 ∷ 0x00 ∷ 0x1E ∷ 0xED ∷ 0xC0 ∷ 0x1E ∷ 0xED ∷ 0xDE ∷ 0xC0 ∷ 0x33 ∷ 0x00 ∷ 0x33 ∷ 0x33 ∷ 0x2D ∷ 0xF3 ∷ 0x00 ∷ []
+
+unfoldable pub c0With130 : List ℕ
+c0With130 =
+    0xCC ∷ 0xC0 ∷ 0x00 ∷ 0x00 ∷ 0x00 ∷ 0x2D ∷ 0xED ∷ 0xED ∷ 0xF3 ∷ 0x2D ∷ 0xDE ∷ 0xC0 ∷ 0x1E ∷ 0xF3 ∷ 0x1E ∷ 0xED ∷ 0xC0 ∷ []
+
+unfoldable pub c0With134 : List ℕ
+c0With134 =
+    0xCC ∷ 0xC0 ∷ 0x00 ∷ 0x00 ∷ 0x00 ∷ 0x02 ∷ 0xDE ∷ 0xDE ∷ 0xDF ∷ 0x32 ∷ 0xDD ∷ 0xEC ∷ 0x01 ∷ 0xEF ∷ 0x31 ∷ 0xEE ∷ 0xDC ∷ []
+
+unfoldable pub c0With126 : List ℕ
+c0With126 =
+    0xCC ∷ 0x00 ∷ 0x00 ∷ 0x00 ∷ 0x00 ∷ 0xB7 ∷ 0xB7 ∷ 0xB7 ∷ 0xCC ∷ 0xB7 ∷ 0x7B ∷ 0x00 ∷ 0x7B ∷ 0xCC ∷ 0x7B ∷ 0xB4 ∷ []
+
 -- a toy code word: the places with the parity bits that the toy record gives them
 unfoldable pub toyWord : List ℕ → List ℕ
 toyWord places = coded (table toy 0) (rows toy) (columns toy) (z toy 0) places
@@ -31,9 +49,11 @@ toyWord places = coded (table toy 0) (rows toy) (columns toy) (z toy 0) places
 abbrev pub toyTerms : Terms
 toyTerms = record { nl = 1; qm = 2 }
 
--- octet 01 with the toy: B, C, E and the bits
-unfoldable pub toySent : ℕ → List ℕ
-toySent g = blockBits 1 ∷ blocks toy (blockBits 1) ∷ share toyTerms g (blocks toy (blockBits 1)) 0 .0 ∷ radioBits toy (blockBits 1) (transport (0x01 ∷ [])) toyTerms g
+-- one octet with the toy: B, C, each block's share, and the bits
+unfoldable pub toySent : ℕ → ℕ → List ℕ
+toySent octet g =
+    blockBits 1 ∷ blocks toy (blockBits 1) ∷ listBelow (blocks toy (blockBits 1)) (λ r. share toyTerms g (blocks toy (blockBits 1)) r .0)
+    ++ radioBits toy (blockBits 1) (transport (octet ∷ [])) toyTerms g
 
 pub record Case : Type 0 where
   pub computed : List ℕ
@@ -60,9 +80,15 @@ cases =
     -- "P9 11 gives 11001100"
     ∷ record { computed = toyWord (1 ∷ 1 ∷ []); due = 1 ∷ 1 ∷ 0 ∷ 0 ∷ 1 ∷ 1 ∷ 0 ∷ 0 ∷ [] }
     -- "P10 toy, octet 01, N_L 1, Q_m 2, G 128: B 32, C 16, E 8", and the bits
-    ∷ record { computed = toySent 128; due = 32 ∷ 16 ∷ 8 ∷ unpacked p10Octets }
-    -- "The same with G 130: the same 128 bits and two zeros"
-    ∷ record { computed = toySent 130; due = 32 ∷ 16 ∷ 8 ∷ unpacked p10Octets ++ (0 ∷ 0 ∷ []) }
+    ∷ record { computed = toySent 0x01 128; due = 32 ∷ 16 ∷ replicate 16 8 ++ unpacked p10Octets }
+    -- CR 1: "The toy case with G 130 now gives ten bits to the first block, whose last two repeat its first two"
+    ∷ record { computed = toySent 0x01 130; due = 32 ∷ 16 ∷ 10 ∷ replicate 15 8 ++ take 130 (unpacked spareOctets) }
+    -- octet C0, whose first block is 11, so that it is seen who has the two bits
+    ∷ record { computed = toySent 0xC0 130; due = 32 ∷ 16 ∷ 10 ∷ replicate 15 8 ++ take 130 (unpacked c0With130) }
+    -- γ 3
+    ∷ record { computed = toySent 0xC0 134; due = 32 ∷ 16 ∷ 10 ∷ 10 ∷ 10 ∷ replicate 13 8 ++ take 134 (unpacked c0With134) }
+    -- γ 15: the last block alone has 6
+    ∷ record { computed = toySent 0xC0 126; due = 32 ∷ 16 ∷ replicate 15 8 ++ 6 ∷ take 126 (unpacked c0With126) }
     ∷ []
 
 abbrev pub computed : Case → List ℕ

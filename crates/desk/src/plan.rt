@@ -38,8 +38,8 @@ fn say(words: Words, why: &[u8]) -> i32 {
         why,
         b"usage: kuambyte plan RECORD OCTETS [LAYERS ORDER]
 
-Writes how a transport block of OCTETS octets is cut: B, C, z and K, each code block's own bits, filler and N, and the least G
-with which every code block has room for all its coded bits.
+Writes how a transport block of OCTETS octets is cut: B, C, z and K, each code block's own bits, filler and N, the least G with
+which every code block has room for all its coded bits, and the blocks' shares of that G.
 
   RECORD   a file with a profile record, as kuambyte lookup writes it
   OCTETS   A/8, the octets of the block: 1 to 2048

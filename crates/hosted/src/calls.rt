@@ -3,6 +3,7 @@ use crate::asked::Parameters;
 use crate::asked::eight_times;
 use advice::Least;
 use bits::number::Written;
+ghost use Prim.Native.Nat.{_≤_};
 
 pub fn send<'a>(
     private: &'a [u8],
@@ -42,7 +43,9 @@ pub fn receive<'a>(
     )
 }
 
-// The least G with which every code block has room.
-pub fn least(record: &[u8], asked: Parameters) -> Least {
+// The least G with which every code block has room. The blocks with the larger share are no more than all blocks, so that the others can be counted.
+pub fn least(record: &[u8], asked: Parameters) -> Least
+    ensures { λ r. ⌜ r .larger ≤ r .blocks ⌝ }
+{
     advice::least_bits(record, asked.octets, asked.terms)
 }

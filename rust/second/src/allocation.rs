@@ -1,4 +1,5 @@
-//! The radio bits that a transport block is given, and each code block's share (document 01, step 5).
+//! The radio bits that a transport block is given, and each code block's share (document 01, step 5,
+//! as document 02, CR 1 has it).
 
 use crate::numbers::{Number, FEW_PLACES, PARAMETER};
 
@@ -33,12 +34,18 @@ impl Allocation {
         })
     }
 
-    /// "Every block is given E = N_L·Q_m·floor(G'/C) bits", or 10 for "G' below C".
-    pub fn share(&self, blocks: usize) -> Result<usize, Number> {
+    /// E_r, the bits of each code block, or 10 for "G' below C". "With γ = G' mod C, blocks r < γ
+    /// have E_r = N_L·Q_m·ceil(G'/C) and the rest have floor": no division is needed where the symbol
+    /// places are dealt out one at a time, to each block in turn and to the first after the last.
+    pub fn shares(&self, blocks: usize) -> Result<Vec<usize>, Number> {
         if self.places < blocks {
             return Err(FEW_PLACES);
         }
-        Ok(self.bits_of_a_place * (self.places / blocks))
+        let mut shares = vec![0; blocks];
+        for r in (0..blocks).cycle().take(self.places) {
+            shares[r] += self.bits_of_a_place;
+        }
+        Ok(shares)
     }
 }
 
@@ -61,8 +68,13 @@ mod tests {
         }
     }
 
-    fn share(layers: u64, order: u64, g: u64, blocks: usize) -> Result<usize, u8> {
-        Allocation::new(layers, order, g)?.share(blocks)
+    fn shares(layers: u64, order: u64, g: u64, blocks: usize) -> Result<Vec<usize>, u8> {
+        Allocation::new(layers, order, g)?.shares(blocks)
+    }
+
+    /// So many shares of one length, and then so many of another.
+    fn first_and_rest(first: (usize, usize), rest: (usize, usize)) -> Vec<usize> {
+        [vec![first.1; first.0], vec![rest.1; rest.0]].concat()
     }
 
     /// Numbers that are any other number in fewer binary places.
@@ -116,22 +128,73 @@ mod tests {
     }
 
     #[test]
-    fn shares_are_whole_symbol_places() {
-        // Document 01: G 128 and 130 give E 8 to 16 blocks, G 126 gives 6.
-        assert_eq!(share(1, 2, 128, 16), Ok(8));
-        assert_eq!(share(1, 2, 130, 16), Ok(8));
-        assert_eq!(share(1, 2, 126, 16), Ok(6));
-        assert_eq!(share(4, 6, 240, 3), Ok(72));
-        assert_eq!(share(1, 2, 65_536, 1), Ok(65_536));
+    fn equal_shares() {
+        // Document 01, P10: G 128 gives E 8 to 16 blocks.
+        assert_eq!(shares(1, 2, 128, 16), Ok(vec![8; 16]));
+        assert_eq!(shares(4, 6, 216, 3), Ok(vec![72; 3]));
+        assert_eq!(shares(1, 2, 65_536, 1), Ok(vec![65_536]));
+        assert_eq!(shares(1, 6, 66, 1), Ok(vec![66]));
+    }
+
+    #[test]
+    fn the_first_blocks_have_the_spare_symbol_places() {
+        // Document 02, CR 1: "The toy case with G 130 now gives ten bits to the first block".
+        let toy = |g| shares(1, 2, g, 16).unwrap();
+        assert_eq!(toy(130), first_and_rest((1, 10), (15, 8)));
+        // 134 bits are 67 symbol places, 4 · 16 and 3; 126 are 63, 3 · 16 and 15.
+        assert_eq!(toy(134), first_and_rest((3, 10), (13, 8)));
+        assert_eq!(toy(126), first_and_rest((15, 8), (1, 6)));
+        // 44 symbol places for six blocks, 7 · 6 and 2; one fewer; 48 are 8 · 6.
+        assert_eq!(shares(1, 2, 88, 6), Ok(vec![16, 16, 14, 14, 14, 14]));
+        assert_eq!(shares(1, 2, 86, 6), Ok(vec![16, 14, 14, 14, 14, 14]));
+        assert_eq!(shares(1, 2, 96, 6), Ok(vec![16; 6]));
+        // 16,384 symbol places for 17 blocks, 963 · 17 and 13.
+        let longest = first_and_rest((13, 3856), (4, 3852));
+        assert_eq!(shares(2, 2, 65_536, 17), Ok(longest));
+    }
+
+    #[test]
+    fn the_spare_ones_are_symbol_places_and_not_bits() {
+        // 80 bits are 10 symbol places of 8 bits, 2 · 4 and 2; 80 is 20 · 4 and leaves nothing.
+        assert_eq!(shares(2, 4, 80, 4), Ok(vec![24, 24, 16, 16]));
+        // 240 bits are 10 symbol places of 24 bits, 3 · 3 and 1.
+        assert_eq!(shares(4, 6, 240, 3), Ok(vec![96, 72, 72]));
+        // 40 bits are 20 symbol places of 2 bits, 6 · 3 and 2; 40 is 13 · 3 and leaves 1.
+        assert_eq!(shares(1, 2, 40, 3), Ok(vec![14, 14, 12]));
+    }
+
+    /// By how much each share is below the one before it, where it is.
+    fn falls(shares: &[usize]) -> Vec<usize> {
+        let pairs = shares.windows(2).filter(|pair| pair[0] != pair[1]);
+        pairs.map(|pair| pair[0] - pair[1]).collect()
+    }
+
+    #[test]
+    fn shares_add_up_to_g_and_fall_once_by_one_symbol_place() {
+        // No other shares are like this: the place of the fall decides the sum.
+        for (layers, order, place) in [(1, 2, 2), (1, 6, 6), (2, 4, 8), (3, 2, 6), (4, 6, 24)] {
+            for places in 1..=200 {
+                let g = place * places;
+                for blocks in 1..=places.min(64) {
+                    let shares = shares(layers, order, g as u64, blocks).unwrap();
+                    assert_eq!(shares.len(), blocks);
+                    assert_eq!(shares.iter().sum::<usize>(), g);
+                    assert!(shares.iter().all(|share| share % place == 0));
+                    let falls = falls(&shares);
+                    assert!(falls.is_empty() || falls == [place], "{shares:?}");
+                }
+            }
+        }
     }
 
     #[test]
     fn every_block_needs_a_symbol_place() {
         // Document 01: "G 30: both answer 10."
-        assert_eq!(share(1, 2, 30, 16), Err(FEW_PLACES));
-        assert_eq!(share(1, 2, 32, 16), Ok(2));
-        assert_eq!(share(1, 2, 0, 1), Err(FEW_PLACES));
-        assert_eq!(share(4, 6, 24 * 63, 64), Err(FEW_PLACES));
-        assert_eq!(share(4, 6, 24 * 64, 64), Ok(24));
+        assert_eq!(shares(1, 2, 30, 16), Err(FEW_PLACES));
+        assert_eq!(shares(1, 2, 32, 16), Ok(vec![2; 16]));
+        assert_eq!(shares(1, 2, 34, 16), Ok(first_and_rest((1, 4), (15, 2))));
+        assert_eq!(shares(1, 2, 0, 1), Err(FEW_PLACES));
+        assert_eq!(shares(4, 6, 24 * 63, 64), Err(FEW_PLACES));
+        assert_eq!(shares(4, 6, 24 * 64, 64), Ok(vec![24; 64]));
     }
 }

@@ -82,8 +82,12 @@ fn add_ending(line: &mut Vec<u8>, random: &mut Random) {
 mod tests {
     use super::{generate, kinds};
     use crate::answer::answer;
+    use crate::kinds::parts;
     use crate::lines::next_line;
     use crate::numbers::Number;
+    use crate::requests::request;
+    use crate::shelf::lookup;
+    use crate::transfer::{Asked, Transfer};
     use std::collections::{BTreeMap, BTreeSet};
 
     fn generated(kind: Option<&str>, seed: u64, count: u64) -> Vec<u8> {
@@ -175,6 +179,63 @@ mod tests {
         for kind in ["recv", "hrecv"] {
             let counts = answers(&generated(Some(kind), 4, 900));
             assert!(counts["0"] > 300, "{kind}: {counts:?}");
+        }
+    }
+
+    /// The transfer that a line of `send`, `recv`, `hsend` or `hrecv` asks for, where there is one.
+    fn transfer(name: &str, line: &[u8]) -> Option<Transfer> {
+        let (kind, mut given) = request(line).ok()??;
+        if kind.name != name {
+            return None;
+        }
+        let record = if name.starts_with('h') {
+            let shelves = parts::shelves(&mut given);
+            shelves.octets(&lookup(&shelves).ok()?).to_vec()
+        } else {
+            given.octets()
+        };
+        let (a, asked) = if name.ends_with("send") {
+            let sending = parts::sending(&mut given);
+            (8 * sending.block.len() as u64, sending.asked)
+        } else {
+            let parts::Receiving {
+                a,
+                layers,
+                order,
+                bits,
+                ..
+            } = parts::receiving(&mut given);
+            let g = bits.len() as u64;
+            (a, Asked { layers, order, g })
+        };
+        Transfer::new(&record, a, asked).ok()
+    }
+
+    /// How many of the lines ask for a transfer, and how many of those have unequal shares: first of
+    /// the lines that are done, and then of all.
+    fn unequal_shares(name: &str, mut input: &[u8]) -> [(usize, usize); 2] {
+        let mut counts = [(0, 0); 2];
+        while let Some(line) = next_line(&mut input).unwrap() {
+            let Some(transfer) = transfer(name, &line) else {
+                continue;
+            };
+            let is_done = answer(&line).unwrap().starts_with("0 ");
+            let unequal = transfer.shares.first() != transfer.shares.last();
+            for count in &mut counts[usize::from(!is_done)..] {
+                count.0 += 1;
+                count.1 += usize::from(unequal);
+            }
+        }
+        counts
+    }
+
+    #[test]
+    fn half_of_what_is_sent_and_received_has_unequal_shares() {
+        for name in ["send", "recv", "hsend", "hrecv"] {
+            let counts = unequal_shares(name, &generated(Some(name), 4, 2000));
+            for (all, unequal) in counts {
+                assert!(all > 500 && 2 * unequal > all, "{name}: {counts:?}");
+            }
         }
     }
 

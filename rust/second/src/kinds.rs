@@ -7,7 +7,7 @@ mod encode;
 mod hrecv;
 mod hsend;
 mod lookup;
-mod parts;
+pub mod parts;
 mod plan;
 mod profile;
 mod rate;

@@ -20,11 +20,10 @@ pub fn receive(
     if output.len() < transfer.octets {
         return Err(OUTPUT);
     }
-    // All of them, also those that ought to be the zeros at the end.
     if bits.iter().any(|&bit| bit > 1) {
         return Err(NO_BIT);
     }
-    if (0..transfer.plan.c).any(|r| transfer.share < unmarked_places(&transfer, r)) {
+    if !has_room(&transfer) {
         return Err(SHORT_SHARE);
     }
     let block = candidate(&transfer, bits);
@@ -35,6 +34,14 @@ pub fn receive(
     }
     output[..block.len()].copy_from_slice(&block);
     Ok(block.len())
+}
+
+/// Whether every block's share has room for its N, for "numbers 13 and 14 read E_r for each block"
+/// (document 02, CR 1).
+pub fn has_room(transfer: &Transfer) -> bool {
+    let blocks = 0..transfer.plan.c;
+    let mut pairs = blocks.map(|r| (transfer.shares[r], unmarked_places(transfer, r)));
+    pairs.all(|(share, unmarked)| share >= unmarked)
 }
 
 /// "Let N be a block's coded places less its filler."
@@ -49,7 +56,7 @@ pub fn unmarked_places(transfer: &Transfer, r: usize) -> usize {
 fn candidate(transfer: &Transfer, bits: &[u8]) -> Vec<u8> {
     let mut carried = Vec::new();
     for r in 0..transfer.plan.c {
-        let stretch = &bits[r * transfer.share..];
+        let stretch = &bits[transfer.stretch(r)];
         carried.extend_from_slice(&stretch[..transfer.plan.own_bits(r)]);
     }
     // The checksum's bits follow those of the octets.

@@ -3,7 +3,7 @@
 
 use crate::draft::{with_staircase, Draft, Rows, EMPTY};
 #[cfg(test)]
-use crate::random::Random;
+use crate::{octets::unpacked, random::Random};
 
 /// The toy record of document 01, "Small profile and worked numbers".
 pub const TOY: [u8; 22] = [
@@ -118,6 +118,18 @@ pub fn no_staircase() -> [u8; 22] {
 #[cfg(test)]
 pub fn bits(count: usize, random: &mut Random) -> Vec<u8> {
     (0..count).map(|_| random.pick(&[0, 1])).collect()
+}
+
+/// The first bits of octets that are written in hexadecimal; behind them there are only zeros, which
+/// fill up the last octet.
+#[cfg(test)]
+pub fn bits_of_hex(hex: &str, count: usize) -> Vec<u8> {
+    let octet = |place| u8::from_str_radix(&hex[place..place + 2], 16).expect("two digits");
+    let octets: Vec<u8> = (0..hex.len()).step_by(2).map(octet).collect();
+    let mut bits = unpacked(&octets);
+    let zeros = bits.split_off(count);
+    assert!(zeros.len() < 8 && zeros.iter().all(|&bit| bit == 0));
+    bits
 }
 
 /// The places of a number's binary digits, the highest first.

@@ -1,5 +1,7 @@
 //! What sending and receiving have in common: numbers 5 to 10, and the six steps of document 01.
 
+use std::ops::Range;
+
 use crate::allocation::Allocation;
 use crate::checksum::with_checksum;
 use crate::numbers::Number;
@@ -24,8 +26,8 @@ pub struct Transfer {
     pub plan: Plan,
     /// The octets of the transport block, A/8.
     pub octets: usize,
-    /// E, the bits of each code block.
-    pub share: usize,
+    /// E_r, the bits of each code block.
+    pub shares: Vec<usize>,
     /// G, the bits of them all.
     pub g: usize,
 }
@@ -37,14 +39,20 @@ impl Transfer {
         let octets = block_octets(a)?;
         let allocation = Allocation::new(asked.layers, asked.order, asked.g)?;
         let plan = cut(&profile, octets)?;
-        let share = allocation.share(plan.c)?;
+        let shares = allocation.shares(plan.c)?;
         Ok(Transfer {
             profile,
             plan,
             octets,
-            share,
+            shares,
             g: allocation.g,
         })
+    }
+
+    /// Where block r's bits stand among the G: its stretch begins where the one before it ends.
+    pub fn stretch(&self, r: usize) -> Range<usize> {
+        let start = self.shares[..r].iter().sum();
+        start..start + self.shares[r]
     }
 
     /// The G bits that a transport block is sent as. The block has the transfer's length.
@@ -53,7 +61,8 @@ impl Transfer {
         let bits = with_checksum(&unpacked(block));
         let code = Code::new(&self.profile, self.plan.z);
         let mut rest = &bits[..];
-        let mut sent = Vec::new();
+        // "the shares now add up to G".
+        let mut sent = Vec::with_capacity(self.g);
         for r in 0..self.plan.c {
             // Step 2: "blocks carry ... bits in order".
             let (own, after) = rest.split_at(self.plan.own_bits(r));
@@ -61,12 +70,10 @@ impl Transfer {
             // Step 3: "Places past a block's own bits, at its end, are filler."
             let mut places = own.to_vec();
             places.resize(self.plan.k, FILLER);
-            // Steps 4 and 6.
+            // Steps 4 and 6, with block r's own share.
             let coded = code.coded(&places);
-            sent.extend(matched(&coded, self.share));
+            sent.extend(matched(&coded, self.shares[r]));
         }
-        // Step 5: "The G − C·E places left at the end hold 0."
-        sent.resize(self.g, 0);
         sent
     }
 }

@@ -4,11 +4,11 @@
 use super::crc::spoil;
 use super::makers::Makers;
 use super::records::{bad, good};
-use super::send::{allocation, octets, one_too_many, small, spoil_allocation, Cut, Sending};
+use super::send::{allocation, octets, one_too_many, small, spare, spoil_allocation, Cut, Sending};
 use super::write::{self, Words};
 use crate::draft::Draft;
 use crate::random::Random;
-use crate::receive::unmarked_places;
+use crate::receive::{has_room, unmarked_places};
 use crate::samples::TOY;
 use crate::transfer::{Asked, Transfer};
 
@@ -24,6 +24,7 @@ pub const RECV: Makers = Makers {
     },
     large: &[
         |random| long(65_536, random),
+        |random| long(65_534, random),
         |random| long(65_538, random),
         |random| long(131_072, random),
     ],
@@ -76,38 +77,38 @@ fn request(record: &[u8], receiving: &Receiving, random: &mut Random) -> Words {
     words
 }
 
-/// A block and an allocation in which each share has room for what the block has to send.
+/// A block and an allocation in which each share has room for what its block has to send: as few
+/// symbol places as may be, or some more.
 fn sending_with_room(draft: &Draft, random: &mut Random) -> Sending {
     let mut sending = Sending::drawn(draft, random);
     let mut cut = Cut::of(draft, sending.block.len() as u64);
-    // With the most bits of a symbol place; one octet always has room.
-    if cut.blocks * cut.longest.next_multiple_of(24) > 65_520 {
+    if !cut.fits() {
         sending.block.truncate(1);
         cut = Cut::of(draft, 1);
     }
-    let shares = |about: u64, random: &mut Random| {
-        let any = about + random.next() % (2 * about);
-        random.pick(&[
-            about,
-            about,
-            about,
-            about,
-            about + 1,
-            about + 1,
-            about + 2,
-            any,
-        ])
+    let blocks = cut.blocks();
+    let places = |least: u64, random: &mut Random| {
+        let any = random.next() % (2 * least);
+        let whole = random.pick(&[0, 0, 0, 0, blocks, blocks, 2 * blocks, any]);
+        least + whole + spare(blocks, random)
     };
-    sending.asked = allocation(&cut, shares, random);
+    sending.asked = allocation(&cut, places, random);
     sending
 }
 
-/// The same with shares that have not room.
+/// The same with shares that have not room: only the last block's, or the last ones', only that of the
+/// last block which needs a spare place, or all of them.
 fn sending_without_room(draft: &Draft, random: &mut Random) -> Sending {
     let mut sending = Sending::drawn(draft, random);
     let cut = Cut::of(draft, sending.block.len() as u64);
-    let shares = |about: u64, random: &mut Random| random.pick(&[about - 1, about - 1, 1]);
-    sending.asked = allocation(&cut, shares, random);
+    let blocks = cut.blocks();
+    let places = |least: u64, random: &mut Random| {
+        let any = random.next() % least;
+        let some = spare(blocks, random).max(1);
+        let fewer = random.pick(&[1, 1, 1, 2, some, blocks, any]);
+        least - fewer.min(least)
+    };
+    sending.asked = allocation(&cut, places, random);
     sending
 }
 
@@ -117,19 +118,20 @@ pub fn refused(random: &mut Random) -> (Vec<u8>, Receiving) {
     let draft = good(random);
     let mut record = draft.octets();
     let mut receiving = Receiving::drawn(&draft, random);
-    for fault in random.one_or_two(12) {
+    for fault in random.one_or_two(13) {
         match fault {
-            0 => receiving = Receiving::of(&draft, &sending_without_room(&draft, random), 0),
-            1..=4 => damage(&draft, &mut receiving, random),
+            0..=1 => receiving = Receiving::of(&draft, &sending_without_room(&draft, random), 0),
+            2..=4 => damage(&draft, &mut receiving, random),
             5 => mix(&draft, &mut receiving, random),
-            6 => octet_over_1(&draft, &mut receiving, random),
-            7 => other_count(&draft, &mut receiving, random),
-            8 => {
+            6 => other_shares(&draft, &mut receiving, random),
+            7 => octet_over_1(&draft, &mut receiving, random),
+            8 => other_count(&draft, &mut receiving, random),
+            9 => {
                 let short = receiving.length.min(small(receiving.a / 8)) - 1;
                 receiving.length = random.pick(&[short, short, short / 2, 0]);
             }
-            9 => other_a(&draft, &mut receiving, random),
-            10 => spoil_allocation(&mut receiving.asked, random),
+            10 => other_a(&draft, &mut receiving, random),
+            11 => spoil_allocation(&mut receiving.asked, random),
             _ => record = bad(random),
         }
     }
@@ -142,27 +144,46 @@ fn transfer(draft: &Draft, receiving: &Receiving) -> Transfer {
     transfer.expect("these bits were sent with it")
 }
 
-/// A systematic place, a parity place, a copy, a place of the checksum, or one of those left at the
-/// end, in the first block, a middle one, the last, or any. Without room for them any place.
+/// A systematic place, a parity place or a copy, in the first block, a middle one, the last, or any; a
+/// place of the checksum; and where the spare symbol places end. Without room for them any place.
 fn place(transfer: &Transfer, random: &mut Random) -> usize {
+    if !has_room(transfer) {
+        return random.below(transfer.g);
+    }
     let plan = &transfer.plan;
     let any = random.below(plan.c);
     let r = random.pick(&[0, plan.c / 2, plan.c - 1, any]);
     let own = plan.own_bits(r);
     let unmarked = unmarked_places(transfer, r);
-    if transfer.share < unmarked {
-        return random.below(transfer.g);
-    }
-    let first = r * transfer.share;
-    let copies = transfer.share - unmarked;
-    let left = transfer.g - plan.c * transfer.share;
+    let first = transfer.stretch(r).start;
+    let copies = transfer.shares[r] - unmarked;
     match random.below(5) {
         0 => first + own + random.below(unmarked - own),
         1 if copies > 0 => first + unmarked + random.below(copies),
-        2 if left > 0 => transfer.g - 1 - random.below(left),
+        2 if longer(transfer) > 0 => spare_place(transfer, random),
         3 => place_of_bit(transfer, plan.b - 1 - random.below(24)),
         _ => first + random.below(own),
     }
+}
+
+/// How many blocks have a longer share than the last: they are the first.
+fn longer(transfer: &Transfer) -> usize {
+    let last = transfer.shares[transfer.plan.c - 1];
+    let shares = transfer.shares.iter();
+    shares.filter(|&&share| share > last).count()
+}
+
+/// A bit of the symbol place that a longer share has and the others have not, or the first bit behind
+/// the longer shares.
+fn spare_place(transfer: &Transfer, random: &mut Random) -> usize {
+    let longer = longer(transfer);
+    if random.one_in(4) {
+        return transfer.stretch(longer).start;
+    }
+    let any = random.below(longer);
+    let r = random.pick(&[0, longer - 1, any]);
+    let bits = transfer.shares[r] - transfer.shares[longer];
+    transfer.stretch(r).end - 1 - random.below(bits)
 }
 
 /// Where a bit of the transport block with its checksum stands first.
@@ -172,7 +193,16 @@ fn place_of_bit(transfer: &Transfer, mut bit: usize) -> usize {
         bit -= transfer.plan.own_bits(r);
         r += 1;
     }
-    r * transfer.share + bit
+    transfer.stretch(r).start + bit
+}
+
+/// The block in whose stretch a place is, and how far the place is behind its first.
+fn block_of(transfer: &Transfer, place: usize) -> (usize, usize) {
+    let blocks = 0..transfer.plan.c;
+    let mut stretches = blocks.map(|r| (r, transfer.stretch(r)));
+    let found = stretches.find(|(_, stretch)| stretch.contains(&place));
+    let (r, stretch) = found.expect("the shares add up to G");
+    (r, place - stretch.start)
 }
 
 /// One bit the other way round, now and then in all its copies.
@@ -181,12 +211,12 @@ fn damage(draft: &Draft, receiving: &mut Receiving, random: &mut Random) {
     let place = place(&transfer, random);
     let other = 1 - receiving.bits[place].min(1);
     receiving.bits[place] = other;
-    let r = place / transfer.share;
-    if r < transfer.plan.c && random.one_in(3) {
+    if random.one_in(3) {
+        let (r, offset) = block_of(&transfer, place);
         let unmarked = unmarked_places(&transfer, r);
-        let stretch = &mut receiving.bits[r * transfer.share..(r + 1) * transfer.share];
-        let copies = stretch.iter_mut().skip(place % transfer.share % unmarked);
-        copies.step_by(unmarked).for_each(|bit| *bit = other);
+        let stretch = receiving.bits[transfer.stretch(r)].iter_mut();
+        let copies = stretch.skip(offset % unmarked).step_by(unmarked);
+        copies.for_each(|bit| *bit = other);
     }
 }
 
@@ -196,9 +226,25 @@ fn mix(draft: &Draft, receiving: &mut Receiving, random: &mut Random) {
     let transfer = transfer(draft, receiving);
     let block = octets(transfer.octets, random);
     let other = transfer.sent(&block);
-    let r = random.below(transfer.plan.c);
-    let stretch = r * transfer.share..(r + 1) * transfer.share;
+    let stretch = transfer.stretch(random.below(transfer.plan.c));
     receiving.bits[stretch.clone()].copy_from_slice(&other[stretch]);
+}
+
+/// The bits of a block with the spare symbol places elsewhere: left at the end as zeros, in the last
+/// blocks, or all in the first one.
+fn other_shares(draft: &Draft, receiving: &mut Receiving, random: &mut Random) {
+    let mut transfer = transfer(draft, receiving);
+    let last = transfer.shares[transfer.plan.c - 1];
+    match random.below(3) {
+        0 => transfer.shares.fill(last),
+        1 => transfer.shares.reverse(),
+        _ => {
+            transfer.shares.fill(last);
+            transfer.shares[0] += transfer.g - transfer.plan.c * last;
+        }
+    }
+    receiving.bits = transfer.sent(&octets(transfer.octets, random));
+    receiving.bits.resize(transfer.g, 0);
 }
 
 fn octet_over_1(draft: &Draft, receiving: &mut Receiving, random: &mut Random) {
@@ -236,7 +282,7 @@ fn other_a(draft: &Draft, receiving: &mut Receiving, random: &mut Random) {
         u64::MAX,
         any,
     ]);
-    receiving.a = random.pick(&[near, near, most, most, far]);
+    receiving.a = random.pick(&[near, near, most, most, most, far]);
 }
 
 /// As many bits as this, of the toy: as they are sent, or zeros where they cannot be.
@@ -258,11 +304,12 @@ fn long(count: usize, random: &mut Random) -> Words {
 
 #[cfg(test)]
 mod tests {
-    use super::{place, transfer, Receiving};
+    use super::{block_of, longer, place, sending_without_room, transfer, Receiving};
     use crate::draft::Draft;
     use crate::random::Random;
     use crate::receive::{receive, unmarked_places};
     use crate::samples::plain;
+    use crate::transfer::Transfer;
 
     fn draft() -> Draft {
         plain(2, 4, &[3, 5])
@@ -289,19 +336,17 @@ mod tests {
 
     #[test]
     fn every_kind_of_place_is_damaged() {
-        // Systematic, parity, copy; in the first, a middle and the last block; and at the end.
+        // Systematic, parity, copy; in the first, a middle and the last block. A copy that only the
+        // longer shares have, in the first of them and the last; and the first bit behind them.
         let mut random = Random::new(2);
         let mut seen = [[false; 3]; 3];
-        let mut end = false;
+        let mut spare = [false; 2];
+        let mut behind = false;
         for _ in 0..3000 {
             let drawn = Receiving::drawn(&draft(), &mut random);
             let transfer = transfer(&draft(), &drawn);
             let place = place(&transfer, &mut random);
-            let (r, offset) = (place / transfer.share, place % transfer.share);
-            if r >= transfer.plan.c {
-                end = true;
-                continue;
-            }
+            let (r, offset) = block_of(&transfer, place);
             let kind = match offset {
                 _ if offset < transfer.plan.own_bits(r) => 0,
                 _ if offset < unmarked_places(&transfer, r) => 1,
@@ -313,8 +358,40 @@ mod tests {
                 _ => 2,
             };
             seen[kind][block] = true;
+            let longer = longer(&transfer);
+            if kind == 2 && offset >= transfer.shares[longer] {
+                spare[0] |= r == 0 && longer > 1;
+                spare[1] |= r + 1 == longer && longer > 1;
+            }
+            behind |= longer > 0 && place == transfer.stretch(longer).start;
         }
         assert_eq!(seen, [[true; 3]; 3]);
-        assert!(end);
+        assert_eq!(spare, [true; 2]);
+        assert!(behind);
+    }
+
+    #[test]
+    fn every_kind_of_short_share_is_drawn() {
+        // Only the last block's, only the last ones', only that of a block between, all of them. Blocks
+        // of 15 coded places and of 14 need a different number of symbol places.
+        let draft = plain(2, 3, &[3]);
+        let mut random = Random::new(3);
+        let mut seen = [0; 4];
+        for _ in 0..1000 {
+            let sending = sending_without_room(&draft, &mut random);
+            let a = 8 * sending.block.len() as u64;
+            let transfer = Transfer::new(&draft.octets(), a, sending.asked).unwrap();
+            let last = transfer.plan.c - 1;
+            let is_short = |&r: &usize| transfer.shares[r] < unmarked_places(&transfer, r);
+            let short: Vec<usize> = (0..=last).filter(is_short).collect();
+            match short[..] {
+                [r] if r == last => seen[0] += 1,
+                [r, .., end] if r > 0 && end == last => seen[1] += 1,
+                [r] if r > 0 => seen[2] += 1,
+                [0, .., end] if end == last => seen[3] += 1,
+                _ => {}
+            }
+        }
+        assert!(seen.iter().all(|&count| count > 50), "{seen:?}");
     }
 }

@@ -1,5 +1,5 @@
-//! Requests `send`: blocks of every length with shares about what they need, and each refusal at its
-//! boundary.
+//! Requests `send`: blocks of every length with shares about what they need, mostly unequal ones, and
+//! each refusal at its boundary.
 
 use super::makers::Makers;
 use super::profile::fitting_octets;
@@ -43,16 +43,20 @@ pub struct Sending {
 }
 
 impl Sending {
-    /// A block that the record takes, and an allocation that it can be sent with: each share as small
-    /// as may be, or just below, at or just above what the block has to send, or larger.
+    /// A block that the record takes, and an allocation that it can be sent with: as few symbol places
+    /// as may be, or about as many as have room for all that there is to send, or any number.
     pub fn drawn(draft: &Draft, random: &mut Random) -> Sending {
-        let count = fitting_octets(draft, random);
-        let shares = |about: u64, random: &mut Random| {
-            let any = 1 + random.next() % (3 * about);
+        let count = length(draft, random);
+        let cut = Cut::of(draft, count);
+        let blocks = cut.blocks();
+        let places = |least: u64, random: &mut Random| {
+            let any = random.next() % (3 * least);
             let large = if random.one_in(20) { 65_536 } else { any };
-            random.pick(&[1, about - 1, about, about, about + 1, any, large])
+            let (below, above) = (least - blocks, least + blocks);
+            let about = random.pick(&[blocks, below, least, least, above, any, large]);
+            about + spare(blocks, random)
         };
-        let asked = allocation(&Cut::of(draft, count), shares, random);
+        let asked = allocation(&cut, places, random);
         let more = random.pick(&[0, 0, 1, 100]);
         Sending {
             block: octets(small(count), random),
@@ -73,44 +77,95 @@ impl Sending {
     }
 }
 
-/// How a transport block is cut: into so many code blocks, the longest of which has so many coded
-/// places that are not marked.
+/// How a transport block is cut: the coded places of each code block that are not marked.
 pub struct Cut {
-    pub blocks: u64,
-    pub longest: u64,
+    unmarked: Vec<u64>,
 }
 
 impl Cut {
     /// The cut of a count of octets that the record takes.
     pub fn of(draft: &Draft, octets: u64) -> Cut {
         let plan = plan::plan(&draft.octets(), octets).expect("the record takes this block");
-        let longest = plan.own_bits(0) + usize::from(draft.m) * plan.z;
+        let parity = usize::from(draft.m) * plan.z;
+        let unmarked = (0..plan.c).map(|r| (plan.own_bits(r) + parity) as u64);
         Cut {
-            blocks: plan.c as u64,
-            longest: longest as u64,
+            unmarked: unmarked.collect(),
         }
+    }
+
+    pub fn blocks(&self) -> u64 {
+        self.unmarked.len() as u64
+    }
+
+    /// The symbol places that each block needs, of so many bits.
+    fn needs(&self, place: u64) -> Vec<u64> {
+        let blocks = self.unmarked.iter();
+        blocks.map(|unmarked| unmarked.div_ceil(place)).collect()
+    }
+
+    /// The fewest symbol places with room for every block: where the first blocks need one more than
+    /// the others, they are the ones that are given it.
+    pub fn least(&self, place: u64) -> u64 {
+        self.needs(place).iter().sum()
+    }
+
+    /// Whether there can be room for every block with any N_L and Q_m: none needs more than its places
+    /// and 23 bits, and of 65,536 bits at most 23 are not in a symbol place.
+    pub fn fits(&self) -> bool {
+        let most: u64 = self.unmarked.iter().map(|unmarked| unmarked + 23).sum();
+        most <= 65_536 - 23
+    }
+
+    /// N_L and Q_m, often such that the first blocks need a symbol place more than the last.
+    fn layers_and_order(&self, random: &mut Random) -> (u64, u64) {
+        let is_uneven = |(layers, order)| {
+            let needs = self.needs(layers * order);
+            needs.first() != needs.last()
+        };
+        let all = (1..=4).flat_map(|layers| [2, 4, 6].map(|order| (layers, order)));
+        let uneven: Vec<(u64, u64)> = all.filter(|&pair| is_uneven(pair)).collect();
+        if !uneven.is_empty() && random.one_in(2) {
+            return random.pick(&uneven);
+        }
+        let layers = random.pick(&[1, 1, 2, 3, 4]);
+        (layers, random.pick(&[2, 2, 4, 6]))
     }
 }
 
-/// An allocation in which each block's share is drawn, in symbol places, knowing how many the longest
-/// block needs; some places are left over.
+/// An allocation whose symbol places are drawn knowing the fewest with room for every block: at least
+/// one for each block, and no more than there may be.
 pub fn allocation(
     cut: &Cut,
-    shares: impl FnOnce(u64, &mut Random) -> u64,
+    places: impl FnOnce(u64, &mut Random) -> u64,
     random: &mut Random,
 ) -> Asked {
-    let layers = random.pick(&[1, 1, 2, 3, 4]);
-    let order = random.pick(&[2, 2, 4, 6]);
+    let (layers, order) = cut.layers_and_order(random);
     let place = layers * order;
-    let share = shares(cut.longest.div_ceil(place), random);
-    let left = random.pick(&[0, 0, 1, cut.blocks / 2, cut.blocks - 1]);
-    let most = 65_536 / place;
-    let places = (cut.blocks * share + left.min(cut.blocks - 1)).clamp(cut.blocks, most);
+    let places = places(cut.least(place), random).clamp(cut.blocks(), 65_536 / place);
     Asked {
         layers,
         order,
         g: place * places,
     }
+}
+
+/// Symbol places that the first blocks have more than the others: for one block, for some, for all but
+/// the last, and now and then none.
+pub fn spare(blocks: u64, random: &mut Random) -> u64 {
+    if blocks == 1 || random.one_in(3) {
+        return 0;
+    }
+    let any = 1 + random.next() % (blocks - 1);
+    random.pick(&[1, blocks / 2, blocks - 1, any])
+}
+
+/// A length that the record takes, and mostly one that is cut: a single block has all of G.
+fn length(draft: &Draft, random: &mut Random) -> u64 {
+    let count = fitting_octets(draft, random);
+    if Cut::of(draft, count).blocks() > 1 || random.one_in(2) {
+        return count;
+    }
+    over(draft, random.pick(&[1, 1, 2])) as u64
 }
 
 pub fn small(number: u64) -> usize {
@@ -177,9 +232,14 @@ pub fn spoil_allocation(asked: &mut Asked, random: &mut Random) {
 
 /// One octet more than can be cut into 64 blocks, or the most that there may be.
 pub fn one_too_many(draft: &Draft) -> usize {
+    over(draft, 64).min(2048)
+}
+
+/// One octet more than can be cut into so many blocks.
+fn over(draft: &Draft, blocks: usize) -> usize {
     let z = draft.sizes.iter().max().copied().unwrap_or(1);
-    let bits = 64 * usize::from(draft.kb) * usize::from(z);
-    ((bits - 24) / 8 + 1).min(2048)
+    let bits = blocks * usize::from(draft.kb) * usize::from(z);
+    (bits - 24) / 8 + 1
 }
 
 /// One symbol place too few, or none at all.
@@ -188,4 +248,35 @@ fn few_places(draft: &Draft, sending: &mut Sending, random: &mut Random) {
     let place = sending.asked.layers.min(4) * sending.asked.order.min(6);
     let blocks = plan::plan(&draft.octets(), count).map_or(1, |plan| plan.c);
     sending.asked.g = random.pick(&[place * (blocks as u64 - 1), 0]);
+}
+
+#[cfg(test)]
+mod tests {
+    use super::{length, Cut};
+    use crate::generate::records::small;
+    use crate::random::Random;
+    use crate::receive::has_room;
+    use crate::transfer::{Asked, Transfer};
+
+    #[test]
+    fn the_least_has_room_and_one_symbol_place_fewer_has_not() {
+        let mut random = Random::new(1);
+        let mut uneven = 0;
+        for _ in 0..1000 {
+            let draft = small(&mut random);
+            let octets = length(&draft, &mut random);
+            let cut = Cut::of(&draft, octets);
+            let (layers, order) = cut.layers_and_order(&mut random);
+            let least = cut.least(layers * order);
+            let transfer = |places: u64| {
+                let g = layers * order * places;
+                Transfer::new(&draft.octets(), 8 * octets, Asked { layers, order, g })
+            };
+            assert!(has_room(&transfer(least).unwrap()));
+            // With fewer symbol places than blocks there is no transfer at all.
+            assert!(!transfer(least - 1).is_ok_and(|transfer| has_room(&transfer)));
+            uneven += usize::from(least % cut.blocks() != 0);
+        }
+        assert!(uneven > 100, "{uneven}");
+    }
 }

@@ -1,5 +1,7 @@
 //! Receiving: the worked numbers, each refusal, and every kind of damage.
 
+use std::ops::RangeInclusive;
+
 use super::receive;
 use crate::numbers::{
     Number, BLOCK_LENGTH, FEW_PLACES, MANY_BLOCKS, NO_BIT, OUTPUT, PARAMETER, RECORD, SHORT_SHARE,
@@ -7,7 +9,7 @@ use crate::numbers::{
 };
 use crate::octets::unpacked;
 use crate::random::Random;
-use crate::samples::{five_sixths, half, no_staircase, not_well_formed, plain, TOY};
+use crate::samples::{bits_of_hex, five_sixths, half, no_staircase, not_well_formed, plain, TOY};
 use crate::send::send;
 use crate::transfer::Asked;
 
@@ -45,13 +47,42 @@ fn the_toy_receives_octet_01() {
     // Document 01, P10 and the lines after it.
     let bits = sent(&TOY, &[0x01], (1, 2), 128);
     assert_eq!(received(&TOY, 8, (1, 2), &bits), Ok(vec![0x01]));
-    let longer = sent(&TOY, &[0x01], (1, 2), 130);
-    assert_eq!(received(&TOY, 8, (1, 2), &longer), Ok(vec![0x01]));
-    // "G 126: E 6, sending does it, receiving answers 13. G 30: both answer 10. G 129: 8."
-    let shorter = sent(&TOY, &[0x01], (1, 2), 126);
-    assert_eq!(received(&TOY, 8, (1, 2), &shorter), Err(SHORT_SHARE));
+    // "G 30: both answer 10. G 129: 8."
     assert_eq!(received(&TOY, 8, (1, 2), &[0; 30]), Err(FEW_PLACES));
     assert_eq!(received(&TOY, 8, (1, 2), &[0; 129]), Err(PARAMETER));
+}
+
+#[test]
+fn the_first_words_of_the_toy_have_the_spare_places() {
+    // Document 02, CR 1. The tests of sending say how these bits are worked out.
+    for (octet, g, hex) in [
+        (0xc0, 130, "ccc00000002dededf32ddec01ef31eedc0"),
+        (0xc0, 134, "ccc000000002dededf32ddec01ef31eedc"),
+        (0x01, 130, "0000001eedc01eeddec0330033332df300"),
+    ] {
+        let bits = bits_of_hex(hex, g);
+        assert_eq!(received(&TOY, 8, (1, 2), &bits), Ok(vec![octet]));
+        // The first block has ten bits, and the last two of them are copies.
+        let mut changed = bits.clone();
+        changed[9] = 1 - changed[9];
+        assert_eq!(received(&TOY, 8, (1, 2), &changed), Err(UNSENT));
+    }
+    // With G 126 only the last block is short: six bits for its eight places.
+    let bits = bits_of_hex("cc00000000b7b7b7ccb77b007bcc7bb4", 126);
+    assert_eq!(received(&TOY, 8, (1, 2), &bits), Err(SHORT_SHARE));
+}
+
+#[test]
+fn equal_shares_and_zeros_behind_them_are_not_sent_any_more() {
+    // What document 01 said before CR 1: with G 130 the bits of G 128 and two zeros.
+    for octet in [0x01, 0xc0, 0xff] {
+        let before = [sent(&TOY, &[octet], (1, 2), 128), vec![0; 2]].concat();
+        assert_eq!(received(&TOY, 8, (1, 2), &before), Err(UNSENT), "{octet}");
+    }
+    // The spare place in the last block, whose word is P8's with C0.
+    let bits = sent(&TOY, &[0xc0], (1, 2), 128);
+    let late = [&bits[..], &[1, 0]].concat();
+    assert_eq!(received(&TOY, 8, (1, 2), &late), Err(UNSENT));
 }
 
 #[test]
@@ -93,12 +124,12 @@ fn what_was_sent_is_received() {
             let block = octets(length, &mut random);
             let a = 8 * length as u64;
             let blocks = crate::plan::plan(&record, length as u64).unwrap().c;
+            let bits_of_a_place = usize::try_from(place.0 * place.1).unwrap();
             for share in shares {
-                for more in [
-                    0,
-                    usize::try_from(place.0 * place.1).unwrap() * (blocks - 1),
-                ] {
-                    let bits = sent(&record, &block, place, share * blocks + more);
+                // No spare place, one, some, and one for every block but the last.
+                for spare in [0, 1.min(blocks - 1), blocks / 2, blocks - 1] {
+                    let g = share * blocks + bits_of_a_place * spare;
+                    let bits = sent(&record, &block, place, g);
                     assert_eq!(received(&record, a, place, &bits), Ok(block.clone()));
                 }
             }
@@ -116,32 +147,41 @@ fn the_longest_block_comes_back() {
 
 #[test]
 fn every_changed_bit_is_noticed() {
-    // Toy, E 10: eight coded places, two copies, and two zeros at the end. A changed bit in any
-    // block, systematic, parity, copy or end, gives bits that no block is sent as.
-    let bits = sent(&TOY, &[0x01], (1, 2), 162);
-    assert_eq!(received(&TOY, 8, (1, 2), &bits), Ok(vec![0x01]));
-    for place in 0..162 {
-        let mut changed = bits.clone();
-        changed[place] = 1 - changed[place];
-        assert_eq!(received(&TOY, 8, (1, 2), &changed), Err(UNSENT), "{place}");
+    // Toy: eight coded places and two copies; with G 162 two more in the first block, with G 190 in
+    // all but the last. A changed bit in any block, systematic, parity or copy, gives bits that no
+    // block is sent as.
+    for g in [162, 190] {
+        let bits = sent(&TOY, &[0x01], (1, 2), g);
+        assert_eq!(received(&TOY, 8, (1, 2), &bits), Ok(vec![0x01]));
+        for place in 0..g {
+            let mut changed = bits.clone();
+            changed[place] = 1 - changed[place];
+            assert_eq!(received(&TOY, 8, (1, 2), &changed), Err(UNSENT), "{place}");
+        }
     }
 }
 
 #[test]
 fn every_changed_word_is_noticed() {
     // A block's systematic bits changed along with its parity and its copies: only the checksum
-    // is not right then.
-    let bits = sent(&TOY, &[0x01], (1, 2), 160);
+    // is not right then. With G 170 the first five blocks have twelve bits and the others ten.
     let words: Vec<Vec<u8>> = [0x00, 0x7b, 0xb7, 0xcc]
         .map(|octet| unpacked(&[octet]))
         .to_vec();
-    for r in 0..16 {
-        for word in &words {
-            let mut changed = bits.clone();
-            changed[10 * r..10 * r + 8].copy_from_slice(word);
-            changed[10 * r + 8..10 * r + 10].copy_from_slice(&word[..2]);
-            let same = (changed == bits).then(|| vec![0x01]);
-            assert_eq!(received(&TOY, 8, (1, 2), &changed), same.ok_or(UNSENT));
+    for (g, longer) in [(160, 0), (170, 5)] {
+        let bits = sent(&TOY, &[0x01], (1, 2), g);
+        for r in 0..16 {
+            let start = 10 * r + 2 * longer.min(r);
+            let share = if r < longer { 12 } else { 10 };
+            for word in &words {
+                let mut changed = bits.clone();
+                let places = changed[start..start + share].iter_mut();
+                places
+                    .zip(word.iter().cycle())
+                    .for_each(|(to, bit)| *to = *bit);
+                let same = (changed == bits).then(|| vec![0x01]);
+                assert_eq!(received(&TOY, 8, (1, 2), &changed), same.ok_or(UNSENT));
+            }
         }
     }
 }
@@ -174,28 +214,33 @@ fn octets_over_1_are_refused_wherever_they_stand() {
     }
 }
 
+/// The least G, of those that are tried with N_L 1 and Q_m 2, with which what is sent is received; with
+/// every lower one the answer is 13, and with every higher one the block comes back.
+fn least_with_room(record: &[u8], block: &[u8], tried: RangeInclusive<usize>) -> usize {
+    let mut least = None;
+    for g in tried.step_by(2) {
+        let bits = sent(record, block, (1, 2), g);
+        match received(record, 8 * block.len() as u64, (1, 2), &bits) {
+            Ok(octets) => {
+                assert_eq!(octets, block);
+                least = least.or(Some(g));
+            }
+            number => assert_eq!((number, least), (Err(SHORT_SHARE), None), "{g}"),
+        }
+    }
+    least.unwrap()
+}
+
 #[test]
 fn every_block_needs_room_for_its_places() {
-    // Kb 1, z 3, one octet: ten blocks of 12 places, the last of 11.
+    // Toy, one octet: sixteen blocks of 8 places.
+    assert_eq!(least_with_room(&TOY, &[0x5a], 32..=200), 128);
+    // Kb 1, z 3, one octet: ten blocks of 12 places, the last of 11, which need 6 symbol places too.
     let record = plain(1, 3, &[3]).octets();
-    for (share, expected) in [
-        (10, Err(SHORT_SHARE)),
-        (12, Ok(vec![0x5a])),
-        (14, Ok(vec![0x5a])),
-    ] {
-        let bits = sent(&record, &[0x5a], (1, 2), 11 * share);
-        assert_eq!(received(&record, 8, (1, 2), &bits), expected, "{share}");
-    }
+    assert_eq!(least_with_room(&record, &[0x5a], 22..=200), 132);
     // Kb 2, m 3, z 16, one octet: one block of 32 bits and no filler, N 80.
     let record = plain(2, 3, &[16]).octets();
-    for (share, expected) in [
-        (78, Err(SHORT_SHARE)),
-        (80, Ok(vec![0x5a])),
-        (82, Ok(vec![0x5a])),
-    ] {
-        let bits = sent(&record, &[0x5a], (1, 2), share);
-        assert_eq!(received(&record, 8, (1, 2), &bits), expected, "{share}");
-    }
+    assert_eq!(least_with_room(&record, &[0x5a], 2..=100), 80);
     // Damage does not matter where there is no room.
     let mut bits = sent(&TOY, &[0x01], (1, 2), 126);
     bits[0] = 1;
@@ -205,11 +250,29 @@ fn every_block_needs_room_for_its_places() {
 
 #[test]
 fn one_block_short_of_room_is_enough() {
-    // Kb 1, m 3, z 27: 5 octets are 64 bits, cut into 22, 21 and 21, so N is 103, 102 and 102.
+    // Toy: with G 126 it is the last of sixteen, with G 124 the last two.
+    for g in [126, 124] {
+        let bits = sent(&TOY, &[0x01], (1, 2), g);
+        assert_eq!(received(&TOY, 8, (1, 2), &bits), Err(SHORT_SHARE));
+    }
+    // Kb 1, m 3, z 27: 5 octets are 64 bits, cut into 22, 21 and 21, so N is 103, 102 and 102. With
+    // G 306 each block has 102 bits and the first is short; with G 308 it has 104.
     let record = plain(1, 3, &[27]).octets();
-    for (share, expected) in [(102, Err(SHORT_SHARE)), (104, Ok(vec![9; 5]))] {
-        let bits = sent(&record, &[9; 5], (1, 2), 3 * share);
-        assert_eq!(received(&record, 40, (1, 2), &bits), expected, "{share}");
+    assert_eq!(least_with_room(&record, &[9; 5], 300..=320), 308);
+}
+
+#[test]
+fn the_first_blocks_have_room_by_their_spare_place() {
+    // Kb 2, m 3, z 3: 32 bits are cut into 6, 6, 5, 5, 5 and 5, so N is 15 or 14. With G 88 the shares
+    // are 16, 16, 14, 14, 14 and 14; with G 86 the second is 14 and short, and no other is.
+    let record = plain(2, 3, &[3]).octets();
+    assert_eq!(least_with_room(&record, &[0x5a], 12..=130), 88);
+    // Kb 1, m 4, z 5: 32 bits are cut into 5, 5, 5, 5, 4, 4 and 4, so N is 25 or 24. With symbol places
+    // of 6 bits four blocks need 5 of them and three need 4: 32 places, which are 192 bits.
+    let record = plain(1, 4, &[5]).octets();
+    for (g, expected) in [(186, Err(SHORT_SHARE)), (192, Ok(vec![0x5a]))] {
+        let bits = sent(&record, &[0x5a], (1, 6), g);
+        assert_eq!(received(&record, 8, (1, 6), &bits), expected, "{g}");
     }
 }
 

@@ -8,7 +8,7 @@ use crate::numbers::{
 use crate::octets::{packed, unpacked};
 use crate::parity::{check, encode};
 use crate::random::Random;
-use crate::samples::{five_sixths, half, no_staircase, not_well_formed, plain, TOY};
+use crate::samples::{bits_of_hex, five_sixths, half, no_staircase, not_well_formed, plain, TOY};
 use crate::transfer::Asked;
 
 fn asked(layers: u64, order: u64, g: u64) -> Asked {
@@ -37,16 +37,55 @@ fn the_toy_sends_octet_01() {
     let bits = sent(&TOY, &[0x01], asked(1, 2, 128)).unwrap();
     assert_eq!(bits.len(), 128);
     assert_eq!(packed(&bits), expected);
-    // "The same with G 130: the same 128 bits and two zeros."
-    let longer = sent(&TOY, &[0x01], asked(1, 2, 130)).unwrap();
-    assert_eq!(longer, [&bits[..], &[0, 0]].concat());
-    // "G 126: E 6, sending does it": the first six bits of each of the sixteen words, and zeros.
-    let shorter = sent(&TOY, &[0x01], asked(1, 2, 126)).unwrap();
-    let cut: Vec<u8> = bits.chunks(8).flat_map(|word| word[..6].to_vec()).collect();
-    assert_eq!(shorter, [cut, vec![0; 30]].concat());
     // "G 30: both answer 10. G 129: 8."
     assert_eq!(sent(&TOY, &[0x01], asked(1, 2, 30)), Err(FEW_PLACES));
     assert_eq!(sent(&TOY, &[0x01], asked(1, 2, 129)), Err(PARAMETER));
+}
+
+#[test]
+fn the_first_words_of_the_toy_have_the_spare_places() {
+    // Document 02, CR 1: "The toy case with G 130 now gives ten bits to the first block, whose last
+    // two repeat its first two." The checksum of C0 is 2AE476 (P1 and P2, doubled and added without
+    // carry), so the sixteen words are those of C0 2A E4 76 by P6 to P9.
+    for (octet, g, hex) in [
+        (0xc0, 128, "cc00000000b7b7b7ccb77b007bcc7bb7"),
+        (0xc0, 130, "ccc00000002dededf32ddec01ef31eedc0"),
+        // Two bits more for the first three words: 11, 00 and 00.
+        (0xc0, 134, "ccc000000002dededf32ddec01ef31eedc"),
+        // Six bits of the last word, 10110111.
+        (0xc0, 126, "cc00000000b7b7b7ccb77b007bcc7bb4"),
+        // The first word of octet 01 is all zeros, and so are its copies.
+        (0x01, 130, "0000001eedc01eeddec0330033332df300"),
+    ] {
+        let bits = sent(&TOY, &[octet], asked(1, 2, g as u64));
+        assert_eq!(bits, Ok(bits_of_hex(hex, g)), "{octet} {g}");
+    }
+}
+
+#[test]
+fn each_word_of_the_toy_fills_its_own_share() {
+    // The words of C0 2A E4 76, from two bits of each to more than two times round. Here "γ = G' mod
+    // C" and "ceil(G'/C)" are worked out as they stand.
+    let words = [
+        0xcc, 0x00, 0x00, 0x00, 0x00, 0xb7, 0xb7, 0xb7, 0xcc, 0xb7, 0x7b, 0x00, 0x7b, 0xcc, 0x7b,
+        0xb7,
+    ];
+    for (layers, order, place) in [(1, 2, 2), (3, 2, 6), (2, 4, 8)] {
+        for places in 16_usize..=160 {
+            let mut expected = Vec::new();
+            for (r, word) in words.iter().enumerate() {
+                let each = if r < places % 16 {
+                    places.div_ceil(16)
+                } else {
+                    places / 16
+                };
+                expected.extend(unpacked(&[*word]).iter().cycle().take(place * each));
+            }
+            let g = (place * places) as u64;
+            let bits = sent(&TOY, &[0xc0], asked(layers, order, g));
+            assert_eq!(bits, Ok(expected), "{layers} {order} {g}");
+        }
+    }
 }
 
 #[test]
@@ -86,18 +125,23 @@ fn blocks_of_different_lengths_follow_one_another() {
     let mut random = Random::new(1);
     let block = octets(2048, &mut random);
     let word = with_checksum(&unpacked(&block));
-    // E = 4 · floor(16,384 / 17) = 3,852; N is 1,938 or 1,937.
+    // 16,384 symbol places are 17 · 963 and 13, so thirteen blocks have 3,856 bits and four have
+    // 3,852; N is 1,938 or 1,937.
     let bits = sent(&record, &block, asked(2, 2, 65_536)).unwrap();
-    assert_eq!(bits[17 * 3852..], [0; 52]);
+    let mut rest = &bits[..];
     let mut carried = Vec::new();
-    for (r, coded) in bits[..17 * 3852].chunks(3852).enumerate() {
+    for r in 0..17 {
         let own = if r < 3 { 966 } else { 965 };
+        let share = if r < 13 { 3856 } else { 3852 };
+        let (coded, after) = rest.split_at(share);
+        rest = after;
         carried.extend_from_slice(&coded[..own]);
         let filled = [&coded[..own], &vec![0; 972 - own], &coded[own..own + 972]].concat();
         assert_eq!(check(&record, 81, &filled), Ok(true));
         let period = own + 972;
-        assert_eq!(coded[period..], coded[..3852 - period]);
+        assert_eq!(coded[period..], coded[..share - period]);
     }
+    assert_eq!(rest, []);
     assert_eq!(carried, word);
 }
 
@@ -184,7 +228,9 @@ fn the_output_has_room_for_g_bits() {
     }
     let mut output = vec![7; 140];
     assert_eq!(send(&TOY, &[0x01], asked(1, 2, 130), &mut output), Ok(130));
-    assert_eq!(output[128..], [0, 0, 7, 7, 7, 7, 7, 7, 7, 7, 7, 7]);
+    // The last word is P9's.
+    assert_eq!(output[122..130], [1, 1, 0, 0, 1, 1, 0, 0]);
+    assert_eq!(output[130..], [7; 10]);
 }
 
 #[test]

@@ -15,9 +15,7 @@ use Rattle.bits.proofs.Lists.{bits-take, bits-drop, length-part}
 use Rattle.cutting.specs.Plan.{blocks}
 use Rattle.coding.specs.Allocation.{share}
 use Rattle.coding.proofs.PlanFields.{word-room}
-use Rattle.coding.proofs.Shares.{shares-fit}
-use Rattle.coding.proofs.Joining.{part-rest}
-use Rattle.coding.proofs.Rebuilt.{Walk, walk-none, walk-more, walk-done, rest-other, block-other, fields, room-here}
+use Rattle.coding.proofs.Rebuilt.{Walk, walk-none, walk-more, walk-done, block-other, fields, given-here, room-here}
 use Rattle.coding.proofs.Sent.{own-fits, own-room, share-is, share-fits}
 use Rattle.coding.proofs.receiving.rebuild.Statement.{statement}
 use Rattle.coding.proofs.receiving.rebuild.Tie as tie
@@ -42,21 +40,15 @@ own-bits-requires c κs = let l = c in
     let s = now (a .bits) in
     let h = st .pre .0 in
     let k = fields R (a .terms) s (a .plan) h in
+    let given = given-here R (a .terms) s (a .plan) h in
     let i = l .before .loop in
     let order : i .r < a .plan .blocks = omega (arith, l) in
     (k .cut .bits-high, omega (arith, order), omega (arith, k .blocks-is, k .cut .most))
 
 share-of-requires : tie.Need-share-of-requires Inv-loop μ-loop
-share-of-requires c κs = let l = c .before in
-    let st = l .before .before .before .before .before .before in
+share-of-requires c κs = let st = c .before .before .before .before .before .before .before in
     let a = st .args in
-    let R = now (a .profile) in
-    let s = now (a .bits) in
-    let h = st .pre .0 in
-    let k = fields R (a .terms) s (a .plan) h in
-    let i = l .before .loop in
-    let order : i .r < a .plan .blocks = omega (arith, l) in
-    record { usable = h .receivable .allocated .usable; most = h .receivable .allocated .most; blocks = omega (arith, order) }
+    given-here (now (a .profile)) (a .terms) (now (a .bits)) (a .plan) (st .pre .0)
 
 add-is-sent-as : tie.Need-add-is-sent-as Inv-loop μ-loop
 add-is-sent-as c = let l = c .before .before .before in
@@ -66,12 +58,13 @@ add-is-sent-as c = let l = c .before .before .before in
     let s = now (a .bits) in
     let h = st .pre .0 in
     let k = fields R (a .terms) s (a .plan) h in
+    let given = given-here R (a .terms) s (a .plan) h in
     let i = l .before .loop in
     let order : i .r < a .plan .blocks = omega (arith, l) in
     let own = c .before .before .own-bits in
     let e = c .before .share-of in
     let mine = share-is R (a .plan) k (a .terms) (length s) (i .r) (e .result .0) (ap (λ (x : CodedBits). x .0) (e .ensures)) in
-    let fits = share-fits R (a .plan) k (a .terms) (length s) (i .r) (i .at) (e .result .0) order (i .inv .2 .stands) mine in
+    let fits = share-fits R (a .plan) k (a .terms) (length s) given (i .r) (i .at) (e .result .0) order (i .inv .2 .stands) mine in
     omega (arith, fits, h .receivable .allocated .most)
 
 sub-is-sent-as : tie.Need-sub-is-sent-as Inv-loop μ-loop
@@ -88,12 +81,13 @@ part-is-sent-as-end c = let l = c .before .before .before in
     let s = now (a .bits) in
     let h = st .pre .0 in
     let k = fields R (a .terms) s (a .plan) h in
+    let given = given-here R (a .terms) s (a .plan) h in
     let i = l .before .loop in
     let order : i .r < a .plan .blocks = omega (arith, l) in
     let own = c .before .before .own-bits in
     let e = c .before .share-of in
     let mine = share-is R (a .plan) k (a .terms) (length s) (i .r) (e .result .0) (ap (λ (x : CodedBits). x .0) (e .ensures)) in
-    let fits = share-fits R (a .plan) k (a .terms) (length s) (i .r) (i .at) (e .result .0) order (i .inv .2 .stands) mine in
+    let fits = share-fits R (a .plan) k (a .terms) (length s) given (i .r) (i .at) (e .result .0) order (i .inv .2 .stands) mine in
     fits
 
 is-sent-as-requires : tie.Need-is-sent-as-requires Inv-loop μ-loop
@@ -104,12 +98,13 @@ is-sent-as-requires c κs = let l = c .before .before .before .before .before in
     let s = now (a .bits) in
     let h = st .pre .0 in
     let k = fields R (a .terms) s (a .plan) h in
+    let given = given-here R (a .terms) s (a .plan) h in
     let i = l .before .loop in
     let order : i .r < a .plan .blocks = omega (arith, l) in
     let own = c .before .before .before .before .own-bits in
     let e = c .before .before .before .share-of in
     let mine = share-is R (a .plan) k (a .terms) (length s) (i .r) (e .result .0) (ap (λ (x : CodedBits). x .0) (e .ensures)) in
-    let fits = share-fits R (a .plan) k (a .terms) (length s) (i .r) (i .at) (e .result .0) order (i .inv .2 .stands) mine in
+    let fits = share-fits R (a .plan) k (a .terms) (length s) given (i .r) (i .at) (e .result .0) order (i .inv .2 .stands) mine in
     let whole : i .at + e .result .0 - i .at ≡ e .result .0 = omega arith in
     let size : length (take (i .at + e .result .0 - i .at) (drop (i .at) s)) ≡ e .result .0 = rw whole (length-part (e .result .0) (i .at) s fits) in
     record {
@@ -134,12 +129,13 @@ returns c = let l = c .before .before .before .before .before .before .before .b
     let s = now (a .bits) in
     let h = st .pre .0 in
     let k = fields R (a .terms) s (a .plan) h in
+    let given = given-here R (a .terms) s (a .plan) h in
     let i = l .before .loop in
     let order : i .r < a .plan .blocks = omega (arith, l) in
     let own = c .before .before .before .before .before .before .before .before .own-bits in
     let e = c .before .before .before .before .before .before .before .share-of in
     let mine = share-is R (a .plan) k (a .terms) (length s) (i .r) (e .result .0) (ap (λ (x : CodedBits). x .0) (e .ensures)) in
-    let fits = share-fits R (a .plan) k (a .terms) (length s) (i .r) (i .at) (e .result .0) order (i .inv .2 .stands) mine in
+    let fits = share-fits R (a .plan) k (a .terms) (length s) given (i .r) (i .at) (e .result .0) order (i .inv .2 .stands) mine in
     let whole : i .at + e .result .0 - i .at ≡ e .result .0 = omega arith in
     let is = c .before .before .before .is-sent-as in
     let told = rw whole at (is .ensures .is) in
@@ -158,12 +154,13 @@ lay-requires c κs = let l = c .before .before .before .before .before .before .
     let s = now (a .bits) in
     let h = st .pre .0 in
     let k = fields R (a .terms) s (a .plan) h in
+    let given = given-here R (a .terms) s (a .plan) h in
     let i = l .before .loop in
     let order : i .r < a .plan .blocks = omega (arith, l) in
     let own = c .before .before .before .before .before .before .before .before .before .before .own-bits in
     let e = c .before .before .before .before .before .before .before .before .before .share-of in
     let mine = share-is R (a .plan) k (a .terms) (length s) (i .r) (e .result .0) (ap (λ (x : CodedBits). x .0) (e .ensures)) in
-    let fits = share-fits R (a .plan) k (a .terms) (length s) (i .r) (i .at) (e .result .0) order (i .inv .2 .stands) mine in (
+    let fits = share-fits R (a .plan) k (a .terms) (length s) given (i .r) (i .at) (e .result .0) order (i .inv .2 .stands) mine in (
       omega (arith, own-room R (a .plan) k (i .r) (own .result) (own .ensures), word-room R (a .plan) k, c .before .before .before .before .before .is-sent-as .kept .1 .1 .1 .1 .0, i .inv .1, st .pre .1),
       omega (arith, own-fits R (a .plan) k (i .r) (i .start) (own .result) order (i .inv .2 .starts) (own .ensures), k .cut .bits-high, i .inv .2 .same, st .pre .2),
     )
@@ -176,12 +173,13 @@ add-start c = let l = c .before .before .before .before .before .before .before 
     let s = now (a .bits) in
     let h = st .pre .0 in
     let k = fields R (a .terms) s (a .plan) h in
+    let given = given-here R (a .terms) s (a .plan) h in
     let i = l .before .loop in
     let order : i .r < a .plan .blocks = omega (arith, l) in
     let own = c .before .before .before .before .before .before .before .before .before .before .before .before .before .own-bits in
     let e = c .before .before .before .before .before .before .before .before .before .before .before .before .share-of in
     let mine = share-is R (a .plan) k (a .terms) (length s) (i .r) (e .result .0) (ap (λ (x : CodedBits). x .0) (e .ensures)) in
-    let fits = share-fits R (a .plan) k (a .terms) (length s) (i .r) (i .at) (e .result .0) order (i .inv .2 .stands) mine in
+    let fits = share-fits R (a .plan) k (a .terms) (length s) given (i .r) (i .at) (e .result .0) order (i .inv .2 .stands) mine in
     omega (arith, own-fits R (a .plan) k (i .r) (i .start) (own .result) order (i .inv .2 .starts) (own .ensures), k .cut .bits-high)
 
 add-at : tie.Need-add-at Inv-loop μ-loop
@@ -192,12 +190,13 @@ add-at c = let l = c .before .before .before .before .before .before .before .be
     let s = now (a .bits) in
     let h = st .pre .0 in
     let k = fields R (a .terms) s (a .plan) h in
+    let given = given-here R (a .terms) s (a .plan) h in
     let i = l .before .loop in
     let order : i .r < a .plan .blocks = omega (arith, l) in
     let own = c .before .before .before .before .before .before .before .before .before .before .before .before .before .before .own-bits in
     let e = c .before .before .before .before .before .before .before .before .before .before .before .before .before .share-of in
     let mine = share-is R (a .plan) k (a .terms) (length s) (i .r) (e .result .0) (ap (λ (x : CodedBits). x .0) (e .ensures)) in
-    let fits = share-fits R (a .plan) k (a .terms) (length s) (i .r) (i .at) (e .result .0) order (i .inv .2 .stands) mine in
+    let fits = share-fits R (a .plan) k (a .terms) (length s) given (i .r) (i .at) (e .result .0) order (i .inv .2 .stands) mine in
     omega (arith, fits, h .receivable .allocated .most)
 
 add-r : tie.Need-add-r Inv-loop μ-loop
@@ -214,12 +213,13 @@ loop-again c = let l = c .before .before .before .before .before .before .before
     let s = now (a .bits) in
     let h = st .pre .0 in
     let k = fields R (a .terms) s (a .plan) h in
+    let given = given-here R (a .terms) s (a .plan) h in
     let i = l .before .loop in
     let order : i .r < a .plan .blocks = omega (arith, l) in
     let own = c .before .before .before .before .before .before .before .before .before .before .before .before .before .before .own-bits in
     let e = c .before .before .before .before .before .before .before .before .before .before .before .before .before .share-of in
     let mine = share-is R (a .plan) k (a .terms) (length s) (i .r) (e .result .0) (ap (λ (x : CodedBits). x .0) (e .ensures)) in
-    let fits = share-fits R (a .plan) k (a .terms) (length s) (i .r) (i .at) (e .result .0) order (i .inv .2 .stands) mine in
+    let fits = share-fits R (a .plan) k (a .terms) (length s) given (i .r) (i .at) (e .result .0) order (i .inv .2 .stands) mine in
     let whole : i .at + e .result .0 - i .at ≡ e .result .0 = omega arith in
     let is = c .before .before .before .before .before .before .before .before .before .is-sent-as in
     let told = rw whole at (is .ensures .is) in
@@ -232,38 +232,6 @@ loop-again c = let l = c .before .before .before .before .before .before .before
           (is .result) told (now (a .room)) (i .room) _ (i .start) yes (st .pre .2) (i .inv .2) (laid-from s (is .last .1 .1 .1 .1 .0) (i .room) _ (i .at) (own .result) (i .start) front (c .before .before .before .lay .ensures)),
     )
 
-sub-some-over : tie.Need-sub-some-over Inv-loop μ-loop
-sub-some-over c = let st = c .before .before .before .before .before .before in
-    let a = st .args in
-    let R = now (a .profile) in
-    let s = now (a .bits) in
-    let h = st .pre .0 in
-    let k = fields R (a .terms) s (a .plan) h in
-    let i = c .before .loop in
-    let last : i .r ≡ a .plan .blocks = omega (arith, i .inv .0, c) in
-    let most = shares-fit (a .terms) (length s) (blocks R (a .plan .bits)) in
-    let to = ap (λ (n : ℕ). sumBelow n (λ j. share (a .terms) (length s) (blocks R (a .plan .bits)) j .0)) (last ∙ k .blocks-is) in
-    omega (arith, most, to, i .inv .2 .stands)
-
-part-some-over-start : tie.Need-part-some-over-start Inv-loop μ-loop
-part-some-over-start c = let st = c .before .before .before .before .before .before in
-    let a = st .args in
-    let R = now (a .profile) in
-    let s = now (a .bits) in
-    let h = st .pre .0 in
-    let k = fields R (a .terms) s (a .plan) h in
-    let i = c .before .loop in
-    let last : i .r ≡ a .plan .blocks = omega (arith, i .inv .0, c) in
-    let most = shares-fit (a .terms) (length s) (blocks R (a .plan .bits)) in
-    let to = ap (λ (n : ℕ). sumBelow n (λ j. share (a .terms) (length s) (blocks R (a .plan .bits)) j .0)) (last ∙ k .blocks-is) in
-    omega (arith, most, to, i .inv .2 .stands)
-
-part-some-over-end : tie.Need-part-some-over-end Inv-loop μ-loop
-part-some-over-end c = search needs
-
-some-over-requires : tie.Need-some-over-requires Inv-loop μ-loop
-some-over-requires c κs = search needs
-
 same-length-3 : tie.Need-same-length-3 Inv-loop μ-loop
 same-length-3 c = search needs
 
@@ -271,20 +239,13 @@ same-length-4 : tie.Need-same-length-4 Inv-loop μ-loop
 same-length-4 c = search needs
 
 returns-2 : tie.Need-returns-2 Inv-loop μ-loop
-returns-2 c = let st = c .before .before .before .before .before .before .before .before in
+returns-2 c = let st = c .before .before .before .before .before .before in
     let a = st .args in
-    let R = now (a .profile) in
-    let s = now (a .bits) in
-    let h = st .pre .0 in
-    let k = fields R (a .terms) s (a .plan) h in
-    let i = c .before .before .before .loop in
-    let last : i .r ≡ a .plan .blocks = omega (arith, i .inv .0, c .before .before) in
-    let over = c .some-over in
-    let told = rw (part-rest (i .at) s) at (over .ensures) in
+    let i = c .before .loop in
+    let last : i .r ≡ a .plan .blocks = omega (arith, i .inv .0, c) in
     record {
-      sent = λ q. walk-done R (a .terms) s (a .plan) h (now (a .room)) (i .room) (i .r) (i .start) (i .at) last (i .inv .2) (sym told ∙ not-true _ q);
-      other = λ q all.
-          rest-other R (a .terms) s (a .plan) h (now (a .room)) (i .room) (i .r) (i .start) (i .at) last (i .inv .2) (sym told ∙ not-false _ q) all;
+      sent = λ q. walk-done (now (a .profile)) (a .terms) (now (a .bits)) (a .plan) (st .pre .0) (now (a .room)) (i .room) (i .r) (i .start) (i .at) last (i .inv .2);
+      other = λ q. absurd (true≢false q);
     }
 
 pub rebuild-spec : {M : Type 1} → statement M
@@ -310,10 +271,6 @@ rebuild-spec =
     add-r
     loop-less
     loop-again
-    sub-some-over
-    part-some-over-start
-    part-some-over-end
-    some-over-requires
     same-length-3
     same-length-4
     returns-2)

@@ -13,11 +13,11 @@ size-requires c κs = let st = c .before .before .before in st .pre .ready .some
 array-borrow-prefix-room : tie.Need-array-borrow-prefix-room
 array-borrow-prefix-room c = c .size .ensures .1
 
-slice-aggregate-send-in : tie.Need-slice-aggregate-send-in
-slice-aggregate-send-in c = sym (length-take-le {A = ℕ} _ (replicate 2592 0) (c .before .size .ensures .1))
+slice-aggregate-send-blocks : tie.Need-slice-aggregate-send-blocks
+slice-aggregate-send-blocks c = sym (length-take-le {A = ℕ} _ (replicate 2592 0) (c .before .size .ensures .1))
 
-send-in-requires : tie.Need-send-in-requires
-send-in-requires c κs =
+send-blocks-requires : tie.Need-send-blocks-requires
+send-blocks-requires c κs =
     let st = c .before .before .before .before .before .before in
     let size = c .before .before .size .ensures in
     (st .pre, length-take-le {A = ℕ} _ (replicate 2592 0) (size .1) ∙ size .0)
@@ -26,7 +26,7 @@ same-length : tie.Need-same-length
 same-length c = search needs
 
 returns : tie.Need-returns
-returns c = c .before .before .before .send-in .ensures
+returns c = c .before .before .before .send-blocks .ensures
 
 pub send-bits-spec : {M : Type 1} → statement M
-send-bits-spec = tie.close (tie.spec size-requires array-borrow-prefix-room slice-aggregate-send-in send-in-requires same-length returns)
+send-bits-spec = tie.close (tie.spec size-requires array-borrow-prefix-room slice-aggregate-send-blocks send-blocks-requires same-length returns)

@@ -1,6 +1,6 @@
 -- `coding::sending::send_blocks` meets its contract. The loop's invariant: the blocks before r stand in front of the output, up to `at`, and
 -- `start` is where block r's own bits begin.
-use mathlib.Core.Path.{_≡_, refl, sym, ap, _∙_}
+use mathlib.Core.Path.{_≡_, refl, sym, ap, ap₂, _∙_}
 use mathlib.Core.List.{List, _++_}
 use Prim.Native.Nat.{ℕ, _-_, _≤_, _<_}
 use native.Mathlib.Omega.{arith}
@@ -13,9 +13,9 @@ use Rattle.cutting.specs.Plan.{blocks}
 use Rattle.cutting.specs.Cutting.{ownStart}
 use Rattle.cutting.proofs.PlanFields.{some-fields}
 use Rattle.coding.specs.Allocation.{share}
-use Rattle.coding.specs.Joining.{blockSent, joined}
+use Rattle.coding.specs.Joining.{blockSent, joined, radioBits}
 use Rattle.coding.proofs.Joining.{Joined, joined-none, joined-more, part-rest}
-use Rattle.coding.proofs.Shares.{shares-fit}
+use Rattle.coding.proofs.Shares.{shares-all}
 use Rattle.coding.proofs.Sent.{start-none, start-turn, own-is, own-fits, own-room, share-is, length-block, share-fits, share-turn, block-is}
 use Rattle.coding.proofs.sending.send_blocks.Statement.{statement}
 use Rattle.coding.proofs.sending.send_blocks.Tie as tie
@@ -35,7 +35,7 @@ within l =
     let a = st .args in
     let k = some-fields (now (a .profile)) (a .plan) (st .pre .0 .ready .some) in
     let i = l .before .loop in
-    omega (arith, share-fits (now (a .profile)) (a .plan) k (a .terms) (a .g .0) (i .r) (i .at) _ (omega (arith, l)) (i .inv .3) refl, i .inv .4 .same, st .pre .0 .room)
+    omega (arith, share-fits (now (a .profile)) (a .plan) k (a .terms) (a .g .0) (st .pre .0 .allocated) (i .r) (i .at) _ (omega (arith, l)) (i .inv .3) refl, i .inv .4 .same, st .pre .0 .room)
 
 loop-holds : tie.Need-loop-holds Inv-loop μ-loop
 unfolding sumBelow
@@ -79,7 +79,7 @@ send-block-requires c κs =
     let e = c .before .before .share-of in
     let order : i .r < a .plan .blocks = omega (arith, l) in
     let mine = share-is R (a .plan) k (a .terms) (a .g .0) (i .r) (e .result .0) (ap (λ (x : CodedBits). x .0) (e .ensures)) in
-    let room = share-fits R (a .plan) k (a .terms) (a .g .0) (i .r) (i .at) (e .result .0) order (i .inv .3) mine in (
+    let room = share-fits R (a .plan) k (a .terms) (a .g .0) (st .pre .0 .allocated) (i .r) (i .at) (e .result .0) order (i .inv .3) mine in (
       record {
         ready = st .pre .0 .ready;
         own-fits = own-room R (a .plan) k (i .r) (own .result) (own .ensures);
@@ -118,7 +118,7 @@ add-at c =
     let e = c .before .before .before .before .before .before .before .before .share-of in
     let order : i .r < a .plan .blocks = omega (arith, l) in
     let mine = share-is R (a .plan) k (a .terms) (a .g .0) (i .r) (e .result .0) (ap (λ (x : CodedBits). x .0) (e .ensures)) in
-    let room = share-fits R (a .plan) k (a .terms) (a .g .0) (i .r) (i .at) (e .result .0) order (i .inv .3) mine in
+    let room = share-fits R (a .plan) k (a .terms) (a .g .0) (st .pre .0 .allocated) (i .r) (i .at) (e .result .0) order (i .inv .3) mine in
     let fits = own-fits R (a .plan) k (i .r) (i .start) (own .result) order (i .inv .1) (own .ensures) in
     omega (arith, room, fits, k .cut .bits-high, st .pre .0 .allocated .most)
 
@@ -160,6 +160,7 @@ same-length-2 : tie.Need-same-length-2 Inv-loop μ-loop
 same-length-2 c = c .before .loop .inv .4 .same
 
 returns : tie.Need-returns Inv-loop μ-loop
+unfolding radioBits
 returns c =
     let st = c .before .before .before .before .before .before in
     let a = st .args in
@@ -168,14 +169,12 @@ returns c =
     let k = some-fields R (a .plan) (st .pre .0 .ready .some) in
     let i = c .before .loop in
     let all : blocks R (a .plan .bits) ≡ i .r = omega (arith, k .blocks-is, i .inv .0, c) in
-    let most = shares-fit (a .terms) (a .g .0) (blocks R (a .plan .bits)) in
-    let end : i .at ≡ sumBelow (blocks R (a .plan .bits)) (λ j. share (a .terms) (a .g .0) (blocks R (a .plan .bits)) j .0) = i .inv .3 ∙ ap (λ (n : ℕ). sumBelow n (λ j. share (a .terms) (a .g .0) (blocks R (a .plan .bits)) j .0)) (sym all) in
     let f = blockSent R (a .plan .bits) s (a .terms) (a .g .0) in
-    record {
-      most = omega (arith, most, end);
-      size = ap (λ (n : ℕ). length (joined n f)) all ∙ i .inv .4 .size;
-      output = i .inv .4 .is ∙ ap (λ (n : ℕ). joined n f ++ drop (i .at) (now (a .out))) (sym all);
-    }
+    let given = rw (k .blocks-is) at (st .pre .0 .allocated) in
+    let end : i .at ≡ a .g .0 =
+    i .inv .3 ∙ ap (λ (n : ℕ). sumBelow n (λ j. share (a .terms) (a .g .0) (blocks R (a .plan .bits)) j .0)) (sym all)
+    ∙ shares-all (a .terms) (a .g .0) (blocks R (a .plan .bits)) given in
+    i .inv .4 .is ∙ ap₂ (λ (n at : ℕ). joined n f ++ drop at (now (a .out))) (sym all) end
 
 pub send-blocks-spec : {M : Type 1} → statement M
 send-blocks-spec =
