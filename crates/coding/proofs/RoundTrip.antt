@@ -11,7 +11,7 @@ use lib.ListN.{length, getD, take, drop, replicate}
 use lib.Seq.{take-at}
 use Rattle.bits.specs.Bits.{AreBits, AreOctets, someOver, digits, withFiller}
 use Rattle.bits.specs.Numbers.{answered}
-use Rattle.bits.specs.Ranges.{sumBelow, firstBelow, within, listBelow}
+use Rattle.bits.specs.Ranges.{firstBelow, within, listBelow}
 use Rattle.bits.specs.declared.number.Written.{Written}
 use Rattle.bits.specs.declared.count.Terms.{Terms}
 use Rattle.bits.proofs.Answers.{applies, passes, none-left, Refusals, last-part, when-done, when-refused}
@@ -30,7 +30,7 @@ use Rattle.parity.specs.Coded.{withParity, checksWith, coded}
 use Rattle.matching.specs.Matching.{kept, matched}
 use Rattle.coding.specs.Blocks.{codedBlock}
 use Rattle.coding.specs.Allocation.{share}
-use Rattle.coding.specs.Joining.{blockSent, joined, radioBits}
+use Rattle.coding.specs.Joining.{blockSent, radioBits}
 use Rattle.coding.specs.Receiving.{someSentAs, receivedBlock, someWithoutRoom}
 use Rattle.coding.specs.Promises.{requestConditions, sendNumber, notOctets, receiveNumber, Sent, Received}
 use Rattle.coding.specs.RoundTrip.{Roomy, NoneSentAs}

@@ -1,6 +1,6 @@
 -- "The cases marked P are checked against the definitions by a single table and a single statement": the table is in specs/Worked.
-use mathlib.Core.Path.{_≡_, refl, ap₂}
-use mathlib.Core.List.{List, [], _++_, map}
+use mathlib.Core.Path.{_≡_, refl, ap₂, _∙_}
+use mathlib.Core.List.{List, [], _∷_, _++_, map}
 use Prim.Native.Nat.{ℕ}
 use lib.ListN.{take, drop}
 use Rattle.bits.specs.Bits.{digits, readOn, valueOf, unpacked, numberAt, withFiller}
@@ -28,25 +28,38 @@ unfolding cases toy p10Octets spareOctets c0With130 c0With134 c0With126 toyWord 
     blockSent joined radioBits
 all-computed = computed
 
--- n cases from the k-th on; two that send are as much as one statement may compute
-abbrev Met : ℕ → ℕ → Type 0
-Met k n = map computed (take n (drop k cases)) ≡ map due (take n (drop k cases))
+-- ---- the transport bits of octets 01 and C0, divided once: the rows below would divide again at every bit
 
-marked : Met 0 10
-unfolding all-computed
-marked = refl
+pub oneBits : List ℕ
+oneBits = 0 ∷ 0 ∷ 0 ∷ 0 ∷ 0 ∷ 0 ∷ 0 ∷ 1 ∷ 1 ∷ 0 ∷ 0 ∷ 0 ∷ 0 ∷ 1 ∷ 1 ∷ 0 ∷ 0 ∷ 1 ∷ 0 ∷ 0 ∷ 1 ∷ 1 ∷ 0 ∷ 0 ∷ 1 ∷ 1 ∷ 1 ∷ 1 ∷ 1 ∷ 0 ∷ 1 ∷ 1 ∷ []
 
-one-spare : Met 10 2
-unfolding all-computed
-one-spare = refl
+c0Bits : List ℕ
+c0Bits = 1 ∷ 1 ∷ 0 ∷ 0 ∷ 0 ∷ 0 ∷ 0 ∷ 0 ∷ 0 ∷ 0 ∷ 1 ∷ 0 ∷ 1 ∷ 0 ∷ 1 ∷ 0 ∷ 1 ∷ 1 ∷ 1 ∷ 0 ∷ 0 ∷ 1 ∷ 0 ∷ 0 ∷ 0 ∷ 1 ∷ 1 ∷ 1 ∷ 0 ∷ 1 ∷ 1 ∷ 0 ∷ []
 
-some-spare : Met 12 2
+pub transport-one : transport (0x01 ∷ []) ≡ oneBits
+unfolding all-computed oneBits
+transport-one = refl
+
+transport-c0 : transport (0xC0 ∷ []) ≡ c0Bits
+unfolding all-computed c0Bits
+transport-c0 = refl
+
+-- ---- the table
+
+words : map computed (take 9 cases) ≡ map due (take 9 cases)
 unfolding all-computed
-some-spare = refl
+words = refl
+
+abbrev sendings : List ℕ → List ℕ → List (List ℕ)
+sendings one c0 = toySent one 128 ∷ toySent one 130 ∷ toySent c0 130 ∷ toySent c0 134 ∷ toySent c0 126 ∷ []
+
+sent : sendings oneBits c0Bits ≡ map due (drop 9 cases)
+unfolding all-computed oneBits c0Bits
+sent = refl
 
 pub worked : map computed cases ≡ map due cases
 unfolding cases
-worked = ap₂ (λ (x y : List (List ℕ)). x ++ y) marked (ap₂ (λ (x y : List (List ℕ)). x ++ y) one-spare some-spare)
+worked = ap₂ (λ (x y : List (List ℕ)). x ++ y) words (ap₂ sendings transport-one transport-c0 ∙ sent)
 
 -- "the checksum of an empty input is 0", of every width
 pub empty : (w g : ℕ) → checksum w g [] ≡ 0

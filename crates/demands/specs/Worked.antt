@@ -49,11 +49,11 @@ toyWord places = coded (table toy 0) (rows toy) (columns toy) (z toy 0) places
 abbrev pub toyTerms : Terms
 toyTerms = record { nl = 1; qm = 2 }
 
--- one octet with the toy: B, C, each block's share, and the bits
-unfoldable pub toySent : ℕ → ℕ → List ℕ
-toySent octet g =
+-- transport bits of one octet with the toy: B, C, each block's share, and the bits that they are sent as
+unfoldable pub toySent : List ℕ → ℕ → List ℕ
+toySent bits g =
     blockBits 1 ∷ blocks toy (blockBits 1) ∷ listBelow (blocks toy (blockBits 1)) (λ r. share toyTerms g (blocks toy (blockBits 1)) r .0)
-    ++ radioBits toy (blockBits 1) (transport (octet ∷ [])) toyTerms g
+    ++ radioBits toy (blockBits 1) bits toyTerms g
 
 pub record Case : Type 0 where
   pub computed : List ℕ
@@ -80,15 +80,15 @@ cases =
     -- "P9 11 gives 11001100"
     ∷ record { computed = toyWord (1 ∷ 1 ∷ []); due = 1 ∷ 1 ∷ 0 ∷ 0 ∷ 1 ∷ 1 ∷ 0 ∷ 0 ∷ [] }
     -- "P10 toy, octet 01, N_L 1, Q_m 2, G 128: B 32, C 16, E 8", and the bits
-    ∷ record { computed = toySent 0x01 128; due = 32 ∷ 16 ∷ replicate 16 8 ++ unpacked p10Octets }
+    ∷ record { computed = toySent (transport (0x01 ∷ [])) 128; due = 32 ∷ 16 ∷ replicate 16 8 ++ unpacked p10Octets }
     -- CR 1: "The toy case with G 130 now gives ten bits to the first block, whose last two repeat its first two"
-    ∷ record { computed = toySent 0x01 130; due = 32 ∷ 16 ∷ 10 ∷ replicate 15 8 ++ take 130 (unpacked spareOctets) }
+    ∷ record { computed = toySent (transport (0x01 ∷ [])) 130; due = 32 ∷ 16 ∷ 10 ∷ replicate 15 8 ++ take 130 (unpacked spareOctets) }
     -- octet C0, whose first block is 11, so that it is seen who has the two bits
-    ∷ record { computed = toySent 0xC0 130; due = 32 ∷ 16 ∷ 10 ∷ replicate 15 8 ++ take 130 (unpacked c0With130) }
+    ∷ record { computed = toySent (transport (0xC0 ∷ [])) 130; due = 32 ∷ 16 ∷ 10 ∷ replicate 15 8 ++ take 130 (unpacked c0With130) }
     -- γ 3
-    ∷ record { computed = toySent 0xC0 134; due = 32 ∷ 16 ∷ 10 ∷ 10 ∷ 10 ∷ replicate 13 8 ++ take 134 (unpacked c0With134) }
+    ∷ record { computed = toySent (transport (0xC0 ∷ [])) 134; due = 32 ∷ 16 ∷ 10 ∷ 10 ∷ 10 ∷ replicate 13 8 ++ take 134 (unpacked c0With134) }
     -- γ 15: the last block alone has 6
-    ∷ record { computed = toySent 0xC0 126; due = 32 ∷ 16 ∷ replicate 15 8 ++ 6 ∷ take 126 (unpacked c0With126) }
+    ∷ record { computed = toySent (transport (0xC0 ∷ [])) 126; due = 32 ∷ 16 ∷ replicate 15 8 ++ 6 ∷ take 126 (unpacked c0With126) }
     ∷ []
 
 abbrev pub computed : Case → List ℕ

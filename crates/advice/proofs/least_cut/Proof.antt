@@ -16,7 +16,7 @@ use Rattle.cutting.proofs.Plans.{plan-passed, plan-bits, plan-blocks}
 use Rattle.coding.specs.steps.Shares.{Allocated}
 use Rattle.coding.proofs.RequestNumber.{cut-passed}
 use Rattle.advice.specs.steps.Counting.{placesForAll}
-use Rattle.advice.proofs.Numbers.{cut, right, last-refused, last-done}
+use Rattle.advice.proofs.Numbers.{right, last-refused, last-done}
 use Rattle.advice.proofs.least_cut.Statement.{statement}
 use Rattle.advice.proofs.least_cut.Tie as tie
 

@@ -1,5 +1,5 @@
 -- `coding::inner::share_of` meets its contract.
-use mathlib.Core.Path.{_≡_, ap, _∙_}
+use mathlib.Core.Path.{_≡_, ap}
 use Prim.Native.Nat.{_+_, _/_, _%_, _≤_, _<_}
 use native.Mathlib.Nat.{div-le-self, le-trans}
 use native.Mathlib.Omega.{arith}

@@ -1,19 +1,17 @@
 -- `coding::receiving::rebuild` meets its contract. The loop's invariant: the blocks before r were tested, and their own bits gathered.
 use mathlib.Core.Path.{_≡_, refl, sym, ap, _∙_}
 use mathlib.Core.Bool.{true≢false}
-use Prim.Native.Nat.{ℕ, _+_, _-_, _≤_, _<_}
+use Prim.Native.Nat.{_+_, _-_, _≤_, _<_}
 use native.Mathlib.Omega.{arith}
 use lib.ListN.{length, take, drop}
 use denote.Ref.{now}
 use borrow.Author.Tests.{not-true, not-false}
 use borrow.Author.Needs.{needs}
 use lib.Seq.{take-take}
-use Rattle.bits.specs.Ranges.{sumBelow}
 use Rattle.bits.specs.declared.count.CodedBits.{CodedBits}
 use Rattle.bits.proofs.Laid.{laid-from}
 use Rattle.bits.proofs.Lists.{bits-take, bits-drop, length-part}
 use Rattle.cutting.specs.Plan.{blocks}
-use Rattle.coding.specs.Allocation.{share}
 use Rattle.coding.proofs.PlanFields.{word-room}
 use Rattle.coding.proofs.Rebuilt.{Walk, walk-none, walk-more, walk-done, block-other, fields, given-here, room-here}
 use Rattle.coding.proofs.Sent.{own-fits, own-room, share-is, share-fits}
