@@ -50,15 +50,15 @@ module _ (f : ℕ → List ℕ) where
   joined-none old = record { is = refl; size = refl; same = refl }
 
   -- block r was written into the part that starts at `at`
-  pub joined-more : (old out part : List ℕ) (r at n : ℕ) → Joined old r at out → length (f r) ≡ n
+  pub joined-more : (old out part : List ℕ) (r at n to : ℕ) → to ≡ at + n → Joined old r at out → length (f r) ≡ n
       → part ≡ f r ++ drop n (take (length out - at) (drop at out))
       → length (take at out ++ (part ++ drop (length out - at) (drop at out))) ≡ length out
-      → Joined old (r + 1) (at + n) (take at out ++ (part ++ drop (length out - at) (drop at out)))
+      → Joined old (r + 1) to (take at out ++ (part ++ drop (length out - at) (drop at out)))
   unfolding joined
-  joined-more old out part r at n j l y same =
+  joined-more old out part r at n to end j l y same =
       record {
-        is = rw (add-one r) (part-back at n (joined r f) old out part (f r) (j .is) (j .size) y);
-        size = rw (add-one r) (length-append (joined r f) (f r) ∙ ap₂ (λ (a b : ℕ). a + b) (j .size) l);
+        is = rw (end, add-one r) (part-back at n (joined r f) old out part (f r) (j .is) (j .size) y);
+        size = rw (end, add-one r) (length-append (joined r f) (f r) ∙ ap₂ (λ (a b : ℕ). a + b) (j .size) l);
         same = same ∙ j .same;
       }
 

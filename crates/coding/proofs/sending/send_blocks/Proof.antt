@@ -149,8 +149,8 @@ loop-again c =
       omega (arith, order),
       omega (arith, turn, here, i .inv .1),
       omega (arith, sent .kept .1 .1 .1 .1 .1 .1 .0, i .inv .2),
-      share-turn R (a .plan) k (a .terms) (a .g .0) (i .r) (i .at) (e .result .0) (i .inv .3) mine,
-      joined-more f (now (a .out)) (i .out) (sent .last .1 .1 .1 .1 .1 .1 .1 .0) (i .r) (i .at) (e .result .0) (i .inv .4) (length-block R (a .plan) k (a .terms) (a .g .0) s (i .r) ∙ sym mine) written (c .before .before .out .given .1),
+      omega (arith, share-turn R (a .plan) k (a .terms) (a .g .0) (i .r) (i .at) (e .result .0) (i .inv .3) mine),
+      joined-more f (now (a .out)) (i .out) (sent .last .1 .1 .1 .1 .1 .1 .1 .0) (i .r) (i .at) (e .result .0) _ (omega arith) (i .inv .4) (length-block R (a .plan) k (a .terms) (a .g .0) s (i .r) ∙ sym mine) written (c .before .before .out .given .1),
     )
 
 same-length : tie.Need-same-length Inv-loop μ-loop
