@@ -1,10 +1,10 @@
 -- The least G is the least: of the G that 8 does not refuse, the least has room, and none below it has; where
 -- 13 is answered, none has. And what receiving answers to so few bits.
-use mathlib.Core.Path.{_≡_, refl, sym, _∙_}
+use mathlib.Core.Path.{_≡_, refl, sym, ap, ap₂, _∙_}
 use mathlib.Core.Bool.{Bool, true, false, not, _&&_, _||_}
 use mathlib.Core.List.{List, [], _∷_}
 use mathlib.Core.Logic.{_⊎_, inl, inr}
-use Prim.Native.Nat.{ℕ, suc, _*_, _/_, _%_, _≤_, _<_}
+use Prim.Native.Nat.{ℕ, suc, _-_, _*_, _/_, _%_, _≤_, _<_}
 use native.Mathlib.Nat.{mul-comm, mul-mod-right, mod-lt, mul-div-cancel-left, div-lt-iff-lt-mul, le-div-iff-mul-le, div-add-mod}
 use native.Mathlib.Omega.{arith}
 use borrow.Author.Tests.{eqb-true, eq-eqb, ltb-false, le-ltb, le-leb, not-false}
@@ -14,16 +14,18 @@ use Rattle.bits.specs.Bits.{someOver}
 use Rattle.bits.specs.Numbers.{answered}
 use Rattle.bits.specs.Ranges.{firstBelow, within}
 use Rattle.bits.specs.Counts.{usable, placeBits}
+use Rattle.bits.specs.declared.count.CodedBits.{CodedBits}
 use Rattle.bits.specs.declared.count.Terms.{Terms}
 use Rattle.bits.proofs.Answers.{applies, passes, passed, when-done, when-refused}
 use Rattle.bits.proofs.Ranges.{neither, equal-or, none-any, First, first-some}
 use Rattle.profile.proofs.Answers.{judged-passed}
 use Rattle.cutting.specs.Plan.{blockBits, blocks}
 use Rattle.cutting.proofs.Plans.{plan-passed}
-use Rattle.coding.specs.Allocation.{misallocated, symbolPlaces, spare}
+use Rattle.coding.specs.Allocation.{misallocated, symbolPlaces, spare, share}
 use Rattle.coding.specs.Receiving.{someSentAs, someWithoutRoom}
 use Rattle.coding.specs.Promises.{tooFewPlaces, notOctets, receiveNumber}
 use Rattle.coding.specs.steps.Numbers.{cutNumber}
+use Rattle.coding.proofs.Shares.{share-first, share-last}
 use Rattle.coding.proofs.RequestNumber.{cut-passed}
 use Rattle.advice.specs.Least.{hasRoom, allocations, roomAt, someRoom, leastBits}
 use Rattle.advice.specs.Promises.{leastNumber, LeastRoom}
@@ -132,7 +134,7 @@ module _ (R : List ℕ) (octets : ℕ) (terms : Terms) where
         let most : placeBits terms * k ≤ 65536 = omega (arith, mul-comm k (placeBits terms)) in
         rw (second, le-ltb 65536 (placeBits terms * k) most, eq-eqb (placeBits terms * k % placeBits terms) 0 (mul-mod-right (placeBits terms) k))
 
-  -- ---- there are others than the blocks with the larger share
+  -- ---- the blocks with the larger share are no more than all blocks
 
   pub larger-fewer : (r : Least) → LeastRoom R octets terms r → r .larger ≤ r .blocks
   unfolding spare
@@ -144,6 +146,24 @@ module _ (R : List ℕ) (octets : ℕ) (terms : Terms) where
       let left = mod-lt (symbolPlaces terms (leastBits R octets terms) .0) {m = c} (right R octets terms (least-passed e .0) .blocks) in
       omega (arith, h .larger, h .blocks, when-done n (symbolPlaces terms (leastBits R octets terms) .0 % c) 0 e, when-done n c 0 e, left))
       (λ d. omega (arith, h .larger, when-refused n (symbolPlaces terms (leastBits R octets terms) .0 % c) 0 d))
+
+  -- and what is told of the shares is each block's
+  pub told-shares : (r : Least) → LeastRoom R octets terms r → r .number ≡ 0 → (k : ℕ)
+      → (k < r .larger → share terms (r .bits .0) (r .blocks) k .0 ≡ r .first .0) × (r .larger ≤ k → share terms (r .bits .0) (r .blocks) k .0 ≡ r .last .0)
+  told-shares r h done k =
+      let c = blocks R (blockBits octets) in
+      let g = leastBits R octets terms in
+      let n = leastNumber R octets terms in
+      let e : n ≡ 0 = sym (h .number) ∙ done in
+      let bits : r .bits .0 ≡ g = h .bits ∙ when-done n g 0 e in
+      let count : r .blocks ≡ c = h .blocks ∙ when-done n c 0 e in
+      let larger : r .larger ≡ spare terms g c .0 = h .larger ∙ when-done n (spare terms g c .0) 0 e in
+      let first : r .first .0 ≡ share terms g c 0 .0 = h .first ∙ when-done n (share terms g c 0 .0) 0 e in
+      let last : r .last .0 ≡ share terms g c (c - 1) .0 = h .last ∙ when-done n (share terms g c (c - 1) .0) 0 e in
+      let here : share terms (r .bits .0) (r .blocks) k .0 ≡ share terms g c k .0 = ap₂ (λ (x y : ℕ). share terms x y k .0) bits count in (
+        λ l. here ∙ ap (λ (x : CodedBits). x .0) (share-first terms g c k (omega arith)) ∙ sym first,
+        λ l. here ∙ ap (λ (x : CodedBits). x .0) (share-last terms g c k (right R octets terms (least-passed e .0) .blocks) (omega arith)) ∙ sym last,
+      )
 
   -- ---- where there is none
 

@@ -23,7 +23,7 @@ leastNumber R octets terms = answered (leastConditions R octets terms)
 pub record LeastRoom (R : List ℕ) (octets : ℕ) (terms : Terms) (r : Least) : Type 0 where
   pub number : r .number ≡ leastNumber R octets terms
   pub bits : r .bits .0 ≡ whenDone (leastNumber R octets terms) (leastBits R octets terms) 0
-  -- γ blocks have the first block's share, and the others that of the last
+  -- γ, and the shares of the first block and of the last: the first γ blocks have the one, the others the other
   pub larger : r .larger ≡ whenDone (leastNumber R octets terms) (spare terms (leastBits R octets terms) (blocks R (blockBits octets)) .0) 0
   pub first : r .first .0 ≡ whenDone (leastNumber R octets terms) (share terms (leastBits R octets terms) (blocks R (blockBits octets)) 0 .0) 0
   pub last : r .last .0

@@ -9,7 +9,6 @@ use bits::number::DONE;
 use bits::number::NO_ROOM;
 use cutting::Plan;
 ghost use mathlib.Core.Path.{_≡_};
-ghost use Prim.Native.Nat.{_≤_};
 ghost use Rattle.bits.specs.steps.Counting.{Usable};
 ghost use Rattle.cutting.specs.steps.Plans.{SomePlan};
 ghost use Rattle.coding.specs.steps.Numbers.{cutNumber};
@@ -23,9 +22,9 @@ pub struct Least {
     pub bits: CodedBits,
     // C, the count of code blocks.
     pub blocks: usize,
-    // How many of them have the first block's share; where it is none, all have the same.
+    // How many of them, the first ones, have one symbol place more than the others.
     pub larger: usize,
-    // The share of the first block, and that of the last.
+    // The share of the first block, and that of the last; no block has another.
     pub first: CodedBits,
     pub last: CodedBits,
 }
@@ -48,7 +47,7 @@ fn refused(number: u32) -> Least
 // The symbol places that all blocks take together: each as many as its own N.
 fn places_for_all(profile: &[u8], plan: Plan, terms: Terms) -> SymbolPlaces
     requires { ⌜ SomePlan (now profile) plan × Usable terms ⌝ }
-    ensures { λ n. ⌜ (n .0 ≡ placesForAll (now (profile .entry)) (plan .bits) terms) × (n .0 ≤ 165888) ⌝ }
+    ensures { λ n. ⌜ n .0 ≡ placesForAll (now (profile .entry)) (plan .bits) terms ⌝ }
 {
     let c = plan.blocks;
     let mut all = 0;

@@ -1,8 +1,8 @@
--- The blocks' shares add up to the allocation.
+-- The blocks' shares: as the code counts them, which there are, and that they add up to the allocation.
 use mathlib.Core.Path.{_≡_, refl, sym, ap, _∙_}
 use mathlib.Core.Bool.{false, not, _||_}
-use Prim.Native.Nat.{ℕ, _+_, _*_, _/_, _%_, _≤_, _<_}
-use native.Mathlib.Nat.{div-add-mod, div-add-mod', le-mul-of-pos-right}
+use Prim.Native.Nat.{ℕ, _+_, _-_, _*_, _/_, _%_, _≤_, _<_}
+use native.Mathlib.Nat.{div-add-mod, div-add-mod', le-mul-of-pos-right, mod-lt}
 use native.Mathlib.Omega.{arith}
 use borrow.Author.Tests.{eqb-true, ltb-false, lt-ltb, le-ltb, not-false}
 use lib.Dec.{eqb, ltb}
@@ -39,6 +39,19 @@ module _ (terms : Terms) (g c r : ℕ) (all : SymbolPlaces) (is : all ≡ symbol
 -- and there are as many
 pub places-more : (n c r : ℕ) → 0 < c → r < n % c → n / c + 1 ≤ n
 places-more n c r some h = omega (arith, div-add-mod' n c, le-mul-of-pos-right (n / c) some)
+
+-- a block has the first one's share or the last one's
+module _ (terms : Terms) (g c r : ℕ) where
+  pub share-first : r < spare terms g c .0 → share terms g c r ≡ share terms g c 0
+  unfolding share
+  share-first h = rw (lt-ltb r (spare terms g c .0) h, lt-ltb 0 (spare terms g c .0) (omega arith))
+
+  pub share-last : 0 < c → spare terms g c .0 ≤ r → share terms g c r ≡ share terms g c (c - 1)
+  unfolding share spare
+  share-last some h =
+      let γ = symbolPlaces terms g .0 % c in
+      let left = mod-lt (symbolPlaces terms g .0) some in
+      rw (le-ltb r γ h, le-ltb (c - 1) γ (omega arith))
 
 -- "the shares now add up to G"
 pub shares-all : (terms : Terms) (g c : ℕ) → Allocated terms g c → sumBelow c (λ r. share terms g c r .0) ≡ g

@@ -3,7 +3,7 @@
 use mathlib.Core.Path.{_≡_, refl, sym, ap, _∙_, subst}
 use mathlib.Core.Bool.{false, true≢false}
 use mathlib.Core.List.{List, [], _∷_, _++_, map}
-use Prim.Native.Nat.{ℕ, zero, suc, _≤_}
+use Prim.Native.Nat.{ℕ, zero, suc, _-_, _*_, _%_, _≤_}
 use native.Mathlib.Omega.{arith}
 use lib.Dec.{lit<, lit≤}
 use lib.ListN.{length, getD, take, drop, replicate, set}
@@ -350,49 +350,50 @@ copied-refused fits v =
     refused-one copied (room-256 .direct) refl copied-gathered
     (λ e. let z : _≡_ {A = ℕ} 0 1 = ap (λ (l : List ℕ). getD l 255 0) (sym sent-256 ∙ e) in omega arith) fits v
 
--- ---- the least G: octet 01 with the toy is 16 blocks of 8 bits, so 128 are the least that have room
+-- ---- the least G of one octet
 
-least-cut : cutNumber toy 1 toyTerms 0 ≡ 0
-unfolding cutNumber answered toy numberAt sumBelow allBelow anyBelow kb m t z offset rows columns tableSize table entry headerRight rises sizesRight offsetDue offsetsRight endsRight shiftRight
-    tableRight wellFormed filled filledBetween firstColumn nextDue nextColumn staircase staircases ceil blockBits kmax blocks misallocated usable placeBits
-least-cut = refl
-
-least-count : blocks toy (blockBits 1) ≡ 16
-unfolding toy numberAt kb t z ceil blockBits kmax blocks
-least-count = refl
-
-least-places : placesForAll toy (blockBits 1) toyTerms ≡ 64
-unfolding placesForAll placesFor sumBelow placeBits sendable toy numberAt firstBelow anyBelow kb m t z rows columns ceil blockBits kmax blocks ownBits sizeIndexFor sizeIndex places filler
-least-places = refl
-
-pub least-told : LeastRoom toy 1 toyTerms
-    (record { number = 0; bits = record { 0 = 128 }; blocks = 16; larger = 0; first = record { 0 = 8 }; last = record { 0 = 8 } })
-unfolding share spare symbolPlaces symbolPlacesOf codedBitsOf ceil placeBits
-least-told =
-    last-done toy 1 toyTerms least-cut (rw least-places (omega arith)) _ refl (rw least-places) (rw least-count) (rw (least-places, least-count)) refl refl
-
--- with kb 2, m 3 and one z of 3 it is 6 blocks, the first two of 15 bits and the others of 14: 88 are the least
-
+-- kb 2, m 3 and one z of 3
 unfoldable pub uneven : List ℕ
 uneven =
     0x00 ∷ 0x02 ∷ 0x00 ∷ 0x03 ∷ 0x00 ∷ 0x01 ∷ 0x00 ∷ 0x03 ∷ 0x00 ∷ 0x0A
     ∷ 0x01 ∷ 0xFF ∷ 0x01 ∷ 0x00 ∷ 0xFF ∷ 0x02 ∷ 0x00 ∷ 0x00 ∷ 0x00 ∷ 0x00 ∷ 0xFF ∷ 0x01 ∷ 0x01 ∷ 0xFF ∷ 0x00 ∷ []
 
-uneven-cut : cutNumber uneven 1 toyTerms 0 ≡ 0
-unfolding cutNumber answered uneven numberAt sumBelow allBelow anyBelow kb m t z offset rows columns tableSize table entry headerRight rises sizesRight offsetDue offsetsRight endsRight shiftRight
-    tableRight wellFormed filled filledBetween firstColumn nextDue nextColumn staircase staircases ceil blockBits kmax blocks misallocated usable placeBits
-uneven-cut = refl
+-- what is counted for it: a record that none of 5 to 9 refuses, C, and the symbol places that its blocks take
+record Counted (R : List ℕ) (c n : ℕ) : Type 0 where
+  cut : cutNumber R 1 toyTerms 0 ≡ 0
+  count : blocks R (blockBits 1) ≡ c
+  places : placesForAll R (blockBits 1) toyTerms ≡ n
 
-uneven-count : blocks uneven (blockBits 1) ≡ 6
-unfolding uneven numberAt kb t z ceil blockBits kmax blocks
-uneven-count = refl
+-- to unfold this is to unfold all that is counted with
+counting : ℕ → ℕ
+unfolding toy uneven cutNumber answered placesForAll placesFor sendable numberAt sumBelow allBelow anyBelow firstBelow kb m t z offset rows columns tableSize table entry headerRight rises sizesRight
+    offsetDue offsetsRight endsRight shiftRight tableRight wellFormed filled filledBetween firstColumn nextDue nextColumn staircase staircases ceil blockBits kmax blocks ownBits sizeIndexFor
+    sizeIndex places filler misallocated usable placeBits
+counting n = n
 
-uneven-places : placesForAll uneven (blockBits 1) toyTerms ≡ 44
-unfolding placesForAll placesFor sumBelow placeBits sendable uneven numberAt firstBelow anyBelow kb m t z rows columns ceil blockBits kmax blocks ownBits sizeIndexFor sizeIndex places filler
-uneven-places = refl
+toy-counted : Counted toy 16 64
+unfolding counting
+toy-counted = record { cut = refl; count = refl; places = refl }
 
+uneven-counted : Counted uneven 6 44
+unfolding counting
+uneven-counted = record { cut = refl; count = refl; places = refl }
+
+told : (R : List ℕ) (c n : ℕ) → Counted R c n → n ≤ 32768
+    → LeastRoom R 1 toyTerms
+    (record { number = 0; bits = record { 0 = 2 * n }; blocks = c; larger = n % c; first = share toyTerms (2 * n) c 0; last = share toyTerms (2 * n) c (c - 1) })
+unfolding placeBits
+told R c n h most =
+    last-done R 1 toyTerms (h .cut) (rw (h .places) most) _ refl (rw (h .places)) (sym (h .count)) (rw (h .places, h .count)) refl refl
+
+-- the toy cuts it into 16 blocks of 8 bits, so 128 are the least
+pub least-told : LeastRoom toy 1 toyTerms
+    (record { number = 0; bits = record { 0 = 128 }; blocks = 16; larger = 0; first = record { 0 = 8 }; last = record { 0 = 8 } })
+unfolding share spare symbolPlaces symbolPlacesOf codedBitsOf ceil placeBits
+least-told = told toy 16 64 toy-counted (lit≤ tt)
+
+-- `uneven` into six, the first two of 15 bits and the others of 14: 88 are
 pub uneven-told : LeastRoom uneven 1 toyTerms
     (record { number = 0; bits = record { 0 = 88 }; blocks = 6; larger = 2; first = record { 0 = 16 }; last = record { 0 = 14 } })
 unfolding share spare symbolPlaces symbolPlacesOf codedBitsOf ceil placeBits
-uneven-told =
-    last-done uneven 1 toyTerms uneven-cut (rw uneven-places (omega arith)) _ refl (rw uneven-places) (rw uneven-count) (rw (uneven-places, uneven-count)) refl refl
+uneven-told = told uneven 6 44 uneven-counted (lit≤ tt)

@@ -48,7 +48,7 @@ module _ (c : tie.After-places-for-all) where
 
   all : c .places-for-all .result .0 ≡ placesForAll R (blockBits (st .args .octets)) (st .args .terms)
   all =
-      c .places-for-all .ensures .0
+      c .places-for-all .ensures
       ∙ ap (λ (b : ℕ). placesForAll R b (st .args .terms)) (plan-bits R (st .args .octets) _ (c .before .plan-accepted .ensures) (taken st))
 
 -- where they are no more than there may be

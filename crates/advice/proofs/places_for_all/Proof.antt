@@ -93,10 +93,8 @@ returns c =
     let st = c .before .before .before in
     let l = c .before .loop in
     let k = some-fields (now (st .args .profile)) (st .args .plan) (st .pre .0) in
-    let end : l .r ≡ blocks (now (st .args .profile)) (st .args .plan .bits) = omega (arith, k .blocks-is, l .inv .0, c) in (
-      l .inv .1 ∙ ap (λ (n : ℕ). sumBelow n (placesFor (now (st .args .profile)) (st .args .plan .bits) (st .args .terms))) end,
-      omega (arith, l .inv .2, end, k .cut .most),
-    )
+    let end : l .r ≡ blocks (now (st .args .profile)) (st .args .plan .bits) = omega (arith, k .blocks-is, l .inv .0, c) in
+    l .inv .1 ∙ ap (λ (n : ℕ). sumBelow n (placesFor (now (st .args .profile)) (st .args .plan .bits) (st .args .terms))) end
 
 pub places-for-all-spec : {M : Type 1} → statement M
 places-for-all-spec =
