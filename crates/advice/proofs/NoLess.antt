@@ -1,5 +1,5 @@
 -- The least G is the least: of the G that 8 does not refuse, the least has room, and none below it has; where
--- 13 is answered, none has. And what receiving answers to so few bits.
+-- 13 is answered, none has. What is told of its shares is each block's. And what receiving answers to so few bits.
 use mathlib.Core.Path.{_≡_, refl, sym, ap, ap₂, _∙_}
 use mathlib.Core.Bool.{Bool, true, false, not, _&&_, _||_}
 use mathlib.Core.List.{List, [], _∷_}

@@ -125,7 +125,7 @@ module _ (R : List ℕ) (octets : ℕ) (cut : Cut R (blockBits octets)) where
 
     -- ---- G = N_L·Q_m·k is k symbol places
 
-    pub places-at : (k : ℕ) → symbolPlaces terms (placeBits terms * k) .0 ≡ k
+    places-at : (k : ℕ) → symbolPlaces terms (placeBits terms * k) .0 ≡ k
     unfolding symbolPlaces symbolPlacesOf
     places-at k = mul-div-cancel-left k some
 

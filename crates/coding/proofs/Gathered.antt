@@ -1,7 +1,7 @@
 -- The received bits, stretch by stretch: where every block has room there is one list of transport bits that they can have been sent for, and
 -- it is what the receiver gathers.
 use mathlib.Core.Path.{_≡_, refl, sym, ap, ap₂, _∙_, subst}
-use mathlib.Core.List.{List, [], _++_, append-nil}
+use mathlib.Core.List.{List}
 use Prim.Native.Nat.{ℕ, suc, _+_, _*_, _≤_, _<_}
 use native.Mathlib.Nat.{add-mul}
 use native.Mathlib.Omega.{arith}
@@ -29,7 +29,7 @@ use Rattle.coding.specs.Receiving.{someWithoutRoom}
 use Rattle.coding.specs.steps.Shares.{Allocated}
 use Rattle.coding.specs.steps.Receiving.{shareStart, ownReceived, gathered, Receivable}
 use Rattle.coding.proofs.ReceivedBlock.{front-own}
-use Rattle.coding.proofs.Joining.{length-joined, joined-part, joined-same, joined-bits, joined-cut}
+use Rattle.coding.proofs.Joining.{length-joined, joined-stretch, joined-same, joined-bits, joined-cut}
 use Rattle.coding.proofs.Shares.{shares-all}
 
 -- bits in which every block has room for its coded bits that are not filler
@@ -123,10 +123,10 @@ module _ (R : List ℕ) (b : ℕ) (terms : Terms) (bits : List ℕ) (h : HasRoom
   unfolding own gathered
   own-gathered r l =
       let f = ownReceived R b terms bits in
-      let part = joined-part f c r [] l in
+      let part = joined-stretch f c r l in
       let size : length (f r) ≡ mine r = received-length r l in
       let start : length (joined r f) ≡ ownStart R b r = front-length r (omega arith) in
-      rw (size, start, append-nil) at part
+      rw (size, start) at part
 
   -- ---- transport bits that are sent as the received bits
 
@@ -147,15 +147,14 @@ module _ (R : List ℕ) (b : ℕ) (terms : Terms) (bits : List ℕ) (h : HasRoom
     sent-is = refl
 
     module _ (e : radioBits R b u terms g ≡ bits) where
-      whole : bits ≡ joined c f ++ []
-      whole = sym e ∙ sent-is ∙ sym (append-nil (joined c f))
+      whole : bits ≡ joined c f
+      whole = sym e ∙ sent-is
 
       -- each block's bits are its stretch
       pub stretch-sent : (r : ℕ) → r < c → blockSent R b u terms g r ≡ take (given r) (drop (at r) bits)
       unfolding f
       stretch-sent r l =
-          let part = joined-part f c r [] l in
-          sym part ∙ ap₂ (λ (i j : ℕ). take i (drop j (joined c f ++ []))) (block-length r) (sent-length r)
+          sym (joined-stretch f c r l) ∙ ap₂ (λ (i j : ℕ). take i (drop j (joined c f))) (block-length r) (sent-length r)
           ∙ ap (λ (l : List ℕ). take (given r) (drop (at r) l)) (sym whole)
 
     -- the other way round

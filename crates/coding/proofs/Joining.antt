@@ -62,8 +62,8 @@ module _ (f : ℕ → List ℕ) where
         same = same ∙ j .same;
       }
 
-  -- block r stands where those before it end
-  pub joined-part : (n r : ℕ) (rest : List ℕ) → r < n → take (length (f r)) (drop (length (joined r f)) (joined n f ++ rest)) ≡ f r
+  -- block r stands where those before it end, whatever is behind
+  joined-part : (n r : ℕ) (rest : List ℕ) → r < n → take (length (f r)) (drop (length (joined r f)) (joined n f ++ rest)) ≡ f r
   unfolding joined
   joined-part zero r rest h = absurd (omega arith)
   joined-part (suc n) r rest h =
@@ -71,6 +71,9 @@ module _ (f : ℕ → List ℕ) where
       (last-or r n h
       (λ l. joined-part n r (f n ++ rest) l)
       (λ e. rw e (ap (take (length (f n))) (drop-append-seam (joined n f) (f n ++ rest)) ∙ take-append-seam (f n) rest)))
+
+  pub joined-stretch : (n r : ℕ) → r < n → take (length (f r)) (drop (length (joined r f)) (joined n f)) ≡ f r
+  joined-stretch n r h = rw append-nil at (joined-part n r [] h)
 
   pub joined-same : (h : ℕ → List ℕ) (n : ℕ) → ((r : ℕ) → r < n → f r ≡ h r) → joined n f ≡ joined n h
   unfolding joined

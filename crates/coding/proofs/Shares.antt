@@ -36,7 +36,7 @@ module _ (terms : Terms) (g c r : ℕ) (all : SymbolPlaces) (is : all ≡ symbol
   unfolding share spare
   share-less q h = rw (made, q, sym is, le-ltb r (all .0 % c) h)
 
--- and there are as many
+-- one more than rounded down is no more than all, where something is left
 pub places-more : (n c r : ℕ) → 0 < c → r < n % c → n / c + 1 ≤ n
 places-more n c r some h = omega (arith, div-add-mod' n c, le-mul-of-pos-right (n / c) some)
 

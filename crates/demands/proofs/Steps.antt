@@ -1,6 +1,6 @@
 -- What a transport block is sent as follows the six steps of document 01, and no other bits do.
 use mathlib.Core.Path.{_≡_, refl, sym, ap, ap₂, _∙_, subst}
-use mathlib.Core.List.{List, [], _++_, append-nil}
+use mathlib.Core.List.{List}
 use Prim.Native.Nat.{ℕ, suc, _-_, _*_, _%_, _≤_, _<_}
 use native.Mathlib.Nat.{add-mul}
 use native.Mathlib.Omega.{arith}
@@ -33,7 +33,7 @@ use Rattle.coding.specs.Allocation.{symbolPlaces, spare, share}
 use Rattle.coding.specs.Joining.{blockSent, joined, radioBits}
 use Rattle.coding.specs.steps.Shares.{Allocated}
 use Rattle.coding.proofs.Shares.{shares-all}
-use Rattle.coding.proofs.Joining.{length-joined, joined-part, joined-same, joined-cut}
+use Rattle.coding.proofs.Joining.{length-joined, joined-stretch, joined-same, joined-cut}
 use Rattle.coding.proofs.RoundTrip.{sent-length, sent-bits}
 use Rattle.demands.specs.Steps.{blockCount, blockPlaces, blockIndex, allPlaces, blockShare, Word, Steps}
 
@@ -162,8 +162,8 @@ module _ (R block : List ℕ) (taken : planNumber R (length block) ≡ 0) where
 
     block-stretch : (r : ℕ) → r < c → take (e r) (drop (sumBelow r e) (radioBits R b u terms g)) ≡ f r
     block-stretch r l =
-        ap (λ (s : List ℕ). take (e r) (drop (sumBelow r e) s)) (sent-is ∙ sym (append-nil (joined c f)))
-        ∙ ap₂ (λ (x y : ℕ). take x (drop y (joined c f ++ []))) (sym (f-size r)) (sym (f-joined r)) ∙ joined-part f c r [] l
+        ap (λ (s : List ℕ). take (e r) (drop (sumBelow r e) s)) sent-is
+        ∙ ap₂ (λ (x y : ℕ). take x (drop y (joined c f))) (sym (f-size r)) (sym (f-joined r)) ∙ joined-stretch f c r l
 
     pub steps : Steps R block terms g (radioBits R b u terms g)
     unfolding blockCount blockBits transport attached mine ownStart f

@@ -30,13 +30,13 @@ all-computed = computed
 
 -- ---- the transport bits of octets 01 and C0, divided once: the rows below would divide again at every bit
 
-pub oneBits : List ℕ
+oneBits : List ℕ
 oneBits = 0 ∷ 0 ∷ 0 ∷ 0 ∷ 0 ∷ 0 ∷ 0 ∷ 1 ∷ 1 ∷ 0 ∷ 0 ∷ 0 ∷ 0 ∷ 1 ∷ 1 ∷ 0 ∷ 0 ∷ 1 ∷ 0 ∷ 0 ∷ 1 ∷ 1 ∷ 0 ∷ 0 ∷ 1 ∷ 1 ∷ 1 ∷ 1 ∷ 1 ∷ 0 ∷ 1 ∷ 1 ∷ []
 
 c0Bits : List ℕ
 c0Bits = 1 ∷ 1 ∷ 0 ∷ 0 ∷ 0 ∷ 0 ∷ 0 ∷ 0 ∷ 0 ∷ 0 ∷ 1 ∷ 0 ∷ 1 ∷ 0 ∷ 1 ∷ 0 ∷ 1 ∷ 1 ∷ 1 ∷ 0 ∷ 0 ∷ 1 ∷ 0 ∷ 0 ∷ 0 ∷ 1 ∷ 1 ∷ 1 ∷ 0 ∷ 1 ∷ 1 ∷ 0 ∷ []
 
-pub transport-one : transport (0x01 ∷ []) ≡ oneBits
+transport-one : transport (0x01 ∷ []) ≡ oneBits
 unfolding all-computed oneBits
 transport-one = refl
 

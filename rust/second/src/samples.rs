@@ -120,6 +120,22 @@ pub fn bits(count: usize, random: &mut Random) -> Vec<u8> {
     (0..count).map(|_| random.pick(&[0, 1])).collect()
 }
 
+/// Octet, G, and what it is sent as with the toy, N_L 1 and Q_m 2, in hexadecimal (document 02, CR 1): "The
+/// toy case with G 130 now gives ten bits to the first block, whose last two repeat its first two." The
+/// checksum of C0 is 2AE476 (P1 and P2, doubled and added without carry), so the sixteen words are those of
+/// C0 2A E4 76 by P6 to P9.
+#[cfg(test)]
+pub const TOY_SENT: [(u8, usize, &str); 5] = [
+    (0xc0, 128, "cc00000000b7b7b7ccb77b007bcc7bb7"),
+    (0xc0, 130, "ccc00000002dededf32ddec01ef31eedc0"),
+    // Two bits more for the first three words: 11, 00 and 00.
+    (0xc0, 134, "ccc000000002dededf32ddec01ef31eedc"),
+    // Six bits of the last word, 10110111.
+    (0xc0, 126, "cc00000000b7b7b7ccb77b007bcc7bb4"),
+    // The first word of octet 01 is all zeros, and so are its copies.
+    (0x01, 130, "0000001eedc01eeddec0330033332df300"),
+];
+
 /// The first bits of octets that are written in hexadecimal; behind them there are only zeros, which
 /// fill up the last octet.
 #[cfg(test)]

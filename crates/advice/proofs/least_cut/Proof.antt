@@ -98,10 +98,10 @@ refused-requires c κs = search needs
 
 returns : tie.Need-returns
 returns c =
-    let then-1 = c .before in
-    let after = then-1 .before .before .before .before in
-    let most = most-is (st after .args .terms) _ (then-1 .before .before .before .symbol-places .ensures) in
-    last-refused (R after) (st after .args .octets) (st after .args .terms) (st after .pre) (omega (arith, all after, most, then-1 .if1 .taken)) _ (c .refused .ensures)
+    let then = c .before in
+    let after = then .before .before .before .before in
+    let most = most-is (st after .args .terms) _ (then .before .before .before .symbol-places .ensures) in
+    last-refused (R after) (st after .args .octets) (st after .args .terms) (st after .pre) (omega (arith, all after, most, then .if1 .taken)) _ (c .refused .ensures)
 
 coded-bits-requires : tie.Need-coded-bits-requires
 coded-bits-requires c κs =

@@ -9,7 +9,9 @@ use crate::numbers::{
 };
 use crate::octets::unpacked;
 use crate::random::Random;
-use crate::samples::{bits_of_hex, five_sixths, half, no_staircase, not_well_formed, plain, TOY};
+use crate::samples::{
+    bits_of_hex, five_sixths, half, no_staircase, not_well_formed, plain, TOY, TOY_SENT,
+};
 use crate::send::send;
 use crate::transfer::Asked;
 
@@ -53,23 +55,27 @@ fn the_toy_receives_octet_01() {
 }
 
 #[test]
-fn the_first_words_of_the_toy_have_the_spare_places() {
-    // Document 02, CR 1. The tests of sending say how these bits are worked out.
-    for (octet, g, hex) in [
-        (0xc0, 130, "ccc00000002dededf32ddec01ef31eedc0"),
-        (0xc0, 134, "ccc000000002dededf32ddec01ef31eedc"),
-        (0x01, 130, "0000001eedc01eeddec0330033332df300"),
-    ] {
+fn the_copies_of_the_spare_places_are_compared() {
+    for (octet, g, hex) in TOY_SENT {
         let bits = bits_of_hex(hex, g);
-        assert_eq!(received(&TOY, 8, (1, 2), &bits), Ok(vec![octet]));
-        // The first block has ten bits, and the last two of them are copies.
-        let mut changed = bits.clone();
-        changed[9] = 1 - changed[9];
-        assert_eq!(received(&TOY, 8, (1, 2), &changed), Err(UNSENT));
+        // With G 126 the last block is short, and no other: six bits for its eight places.
+        let expected = if g == 126 {
+            Err(SHORT_SHARE)
+        } else {
+            Ok(vec![octet])
+        };
+        assert_eq!(received(&TOY, 8, (1, 2), &bits), expected, "{octet} {g}");
     }
-    // With G 126 only the last block is short: six bits for its eight places.
-    let bits = bits_of_hex("cc00000000b7b7b7ccb77b007bcc7bb4", 126);
-    assert_eq!(received(&TOY, 8, (1, 2), &bits), Err(SHORT_SHARE));
+    // With G 130 and more the first block has ten bits, and the last two of them are copies.
+    for (octet, g, hex) in TOY_SENT.into_iter().filter(|(_, g, _)| *g >= 130) {
+        let mut changed = bits_of_hex(hex, g);
+        changed[9] = 1 - changed[9];
+        assert_eq!(
+            received(&TOY, 8, (1, 2), &changed),
+            Err(UNSENT),
+            "{octet} {g}"
+        );
+    }
 }
 
 #[test]

@@ -8,7 +8,9 @@ use crate::numbers::{
 use crate::octets::{packed, unpacked};
 use crate::parity::{check, encode};
 use crate::random::Random;
-use crate::samples::{bits_of_hex, five_sixths, half, no_staircase, not_well_formed, plain, TOY};
+use crate::samples::{
+    bits_of_hex, five_sixths, half, no_staircase, not_well_formed, plain, TOY, TOY_SENT,
+};
 use crate::transfer::Asked;
 
 fn asked(layers: u64, order: u64, g: u64) -> Asked {
@@ -44,19 +46,7 @@ fn the_toy_sends_octet_01() {
 
 #[test]
 fn the_first_words_of_the_toy_have_the_spare_places() {
-    // Document 02, CR 1: "The toy case with G 130 now gives ten bits to the first block, whose last
-    // two repeat its first two." The checksum of C0 is 2AE476 (P1 and P2, doubled and added without
-    // carry), so the sixteen words are those of C0 2A E4 76 by P6 to P9.
-    for (octet, g, hex) in [
-        (0xc0, 128, "cc00000000b7b7b7ccb77b007bcc7bb7"),
-        (0xc0, 130, "ccc00000002dededf32ddec01ef31eedc0"),
-        // Two bits more for the first three words: 11, 00 and 00.
-        (0xc0, 134, "ccc000000002dededf32ddec01ef31eedc"),
-        // Six bits of the last word, 10110111.
-        (0xc0, 126, "cc00000000b7b7b7ccb77b007bcc7bb4"),
-        // The first word of octet 01 is all zeros, and so are its copies.
-        (0x01, 130, "0000001eedc01eeddec0330033332df300"),
-    ] {
+    for (octet, g, hex) in TOY_SENT {
         let bits = sent(&TOY, &[octet], asked(1, 2, g as u64));
         assert_eq!(bits, Ok(bits_of_hex(hex, g)), "{octet} {g}");
     }
