@@ -1,4 +1,4 @@
-# What the commands of the bench share: where things are, which tools there are, and how instructions are counted. Read by them, not run.
+# What the commands of the bench share: where things are, which tools there are, how instructions are counted, and what comes before a table. Read by them, not run.
 set -eu
 here=$(dirname "$(readlink -f "$0")")
 top=$(dirname "$here")
@@ -34,6 +34,8 @@ missing() {
 
 can_count() { [ -z "$(missing)" ]; }
 
+not_counted() { echo "x86-64 instructions are not counted; Debian packages that are needed: $(missing | tr '\n' ' ')"; }
+
 need_counting() { can_count || fail "instructions cannot be counted; Debian packages that are needed: $(missing | tr '\n' ' ')"; }
 
 # counted MARKS PROGRAM WORDS..: runs an x86-64 program and writes the counts to MARKS. The processor is an old one: on others
@@ -44,8 +46,31 @@ counted() {
     qemu-x86_64 -cpu Nehalem -plugin "$work/libmarks.so" -d plugin -D "$marks" "$@"
 }
 
+# counts [JOB]: the table of instructions.
+counts() {
+    counted "$work/x86/marks" "$work/x86/driver" "$shelf" count ${1:+"$1"} >"$work/x86/jobs"
+    awk -f "$here/counts.awk" "$work/x86/marks" "$work/x86/jobs"
+}
+
 # places PROGRAM MARKS: the counted instructions by function.
 places() {
     "${cross}nm" -n "$1" >"$2.symbols"
     awk -f "$here/places.awk" "$2.symbols" "$2" | sort -rn
+}
+
+# What heads every table.
+machine_and_compilers() {
+    processor=$(sed -n 's/^model name[^:]*: //p' /proc/cpuinfo | head -n 1)
+    echo "machine    $machine, ${processor:-processor without a name}, $(nproc) of them, load $(cut -d ' ' -f 1 /proc/loadavg)"
+    echo "product    commit $(git -C "$top" rev-parse --short HEAD 2>/dev/null || echo unknown), $(rt version), $("$clang" --version | head -n 1)"
+    echo "baselines  $(rustc --version), LLVM $(rustc -vV | sed -n 's/^LLVM version: //p'); for instructions the kit's clang"
+    echo "date       $(date +%Y-%m-%d)"
+}
+
+# Nothing is measured where the sides answer differently, on any job or on a broken one. What was compared is kept in `same`.
+assert_same() {
+    if ! "$work/native/driver" "$shelf" same 100000 >"$work/same"; then
+        cat "$work/same" >&2
+        fail "the sides do not answer the same, so nothing is measured"
+    fi
 }

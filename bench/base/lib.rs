@@ -2,6 +2,7 @@
 //! the best shape we know, both on the product's layout, for C to call.
 #![no_std]
 
+mod bit_by_bit;
 mod limit;
 mod plain;
 mod record;
@@ -43,7 +44,7 @@ checksums! {
     plain_crc_of_bits plain::checksum::of_bits;
     limit_crc_of_bits limit::checksum::of_bits;
     plain_crc plain::checksum::by_octets;
-    plain_crc_bitwise plain::checksum::by_bits;
+    plain_crc_bitwise bit_by_bit::summed;
     limit_crc limit::checksum::by_eight_octets;
 }
 

@@ -84,6 +84,8 @@ int is_asked(const struct job *job, const char *only);
 int same(const struct job *job);
 void compare_broken(long count);
 void print_times(int rounds, const char *only);
+/* For a program to read, a line for each side: job, side, nanoseconds, and what the product's time is over them. */
+void print_medians(int rounds, const char *only);
 void mark_counts(const char *only);
 void mark_places(const char *name);
 void print_depths(const char *only);

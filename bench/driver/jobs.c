@@ -170,6 +170,14 @@ static void add_growing(void) {
         add_hosted(LOOKUP, named("lookup grow entries", entries), entries, 9, entries);
 }
 
+/* The other checksums of octets that bench/checksum has rows for. */
+static void add_shorter_checksums(void) {
+    for (size_t width = 24; width >= 8; width -= 8)
+        for (size_t octets = 1; octets <= 256; octets *= 16)
+            add_checksum(CRC, width, octets);
+    add_checksum(CRC, 8, 2048);
+}
+
 void make_jobs(const char *shelf) {
     read_shelf(shelf);
     add_checksum(CRC, 24, 2048);
@@ -191,4 +199,6 @@ void make_jobs(const char *shelf) {
     add_hosted_transfer(56);
     add_hosted_transfer(2048);
     add_growing();
+    /* At the end, so that the jobs before have the inputs that they had. */
+    add_shorter_checksums();
 }

@@ -1,4 +1,5 @@
-/* Puts the same calls to the product and to the baselines: driver SHELF same COUNT | time ROUNDS [JOB] | count [JOB] | where JOB | stack [JOB] */
+/* Puts the same calls to the product and to the baselines: driver SHELF same COUNT | time ROUNDS [JOB] | medians ROUNDS [JOB]
+   | count [JOB] | where JOB | stack [JOB] */
 #include "calls.h"
 #include <stdio.h>
 #include <stdlib.h>
@@ -16,6 +17,8 @@ int main(int count, char **words) {
         compare_broken(atol(first));
     else if (!strcmp(command, "time") && first)
         print_times(atoi(first), second);
+    else if (!strcmp(command, "medians") && first)
+        print_medians(atoi(first), second);
     else if (!strcmp(command, "count"))
         mark_counts(first);
     else if (!strcmp(command, "where") && first)

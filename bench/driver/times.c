@@ -68,7 +68,7 @@ static void print_cell(const struct job *job, int side, const char *form, double
 static void print_row(const struct job *job, int rounds) {
     printf("%-28s", job->name);
     for (int i = 0; i < SIDES; i++)
-        print_cell(job, i, " %8.0f", times[i][rounds / 2]);
+        print_cell(job, i, times[i][rounds / 2] < 9.95 ? " %8.1f" : " %8.0f", times[i][rounds / 2]);
     for (int i = PLAIN; i < SIDES; i++)
         print_cell(job, i, " %8.2f", ratios[i][rounds / 2]);
     double quarters = ratios[PLAIN][3 * rounds / 4] - ratios[PLAIN][rounds / 4];
@@ -76,18 +76,30 @@ static void print_row(const struct job *job, int rounds) {
     fflush(stdout);
 }
 
-void print_times(int rounds, const char *only) {
+static void print_medians_of(const struct job *job, int rounds) {
+    for (int i = 0; i < SIDES; i++)
+        if (has(&sides[i], job))
+            printf("%s|%s|%.2f|%.4f\n", job->name, sides[i].name, times[i][rounds / 2], ratios[i][rounds / 2]);
+}
+
+static void measure_asked(int rounds, const char *only, void print(const struct job *job, int rounds)) {
     if (rounds < 1 || rounds > MOST_ROUNDS)
         rounds = 25;
+    for (int k = 0; k < job_count; k++)
+        if (is_asked(&jobs[k], only)) {
+            measure(&jobs[k], rounds);
+            print(&jobs[k], rounds);
+        }
+}
+
+void print_medians(int rounds, const char *only) { measure_asked(rounds, only, print_medians_of); }
+
+void print_times(int rounds, const char *only) {
     printf("%-28s", "CPU time, nanoseconds");
     for (int i = 0; i < SIDES; i++)
         printf(" %8s", sides[i].name);
     for (int i = PLAIN; i < SIDES; i++)
         printf("  /%-6s", sides[i].name);
     printf(" spread\n");
-    for (int k = 0; k < job_count; k++)
-        if (is_asked(&jobs[k], only)) {
-            measure(&jobs[k], rounds);
-            print_row(&jobs[k], rounds);
-        }
+    measure_asked(rounds, only, print_row);
 }

@@ -1,4 +1,4 @@
-//! Checksums from a table of 256 entries, and bit by bit.
+//! Checksums from a table of 256 entries, of octets and of single bits.
 
 use super::octets::{pack, some_over};
 
@@ -78,20 +78,4 @@ fn bits_folded(table: &[u32; 256], generator: u32, bits: &[u8]) -> u32 {
 /// Goes on with the register, bit by bit.
 pub fn bits_from(register: u32, generator: u32, bits: &[u8]) -> u32 {
     bits.iter().fold(register, |register, &bit| step(register ^ ((bit as u32) << 31), generator))
-}
-
-/// The width is known at run time only, as in the product: else LLVM makes a table loop of it.
-pub fn by_bits(width: usize, octets: &[u8]) -> u32 {
-    let generator = match width {
-        24 => G24,
-        16 => G16,
-        8 => G8,
-        _ => return 0,
-    };
-    let generator = core::hint::black_box(generator);
-    let next = |register: u32, &octet: &u8| {
-        let register = register ^ ((octet as u32) << 24);
-        (0..8).fold(register, |register, _| step(register, generator))
-    };
-    octets.iter().fold(0u32, next) >> (32 - width)
 }

@@ -9,6 +9,7 @@ use lib.Seq.{getD-set-same, getD-set-other, getD-append-add, getD-drop, getD-tak
 use Rattle.bits.specs.steps.Places.{Laid, Marked}
 use Rattle.bits.proofs.Lists.{length-part}
 use Rattle.bits.proofs.Ranges.{below-or, last-or}
+use Rattle.bits.proofs.Listed.{list-of, written}
 
 -- ---- octets laid over a list
 
@@ -58,6 +59,15 @@ laid-front s a b from n at h l w =
     ap (λ (i : ℕ). getD b i 0) (sym back) ∙ w .inside (k - at) (omega arith)
     ∙ sym (ap (λ (i : ℕ). getD (take at a ++ take n (drop from s)) i 0) (sym back') ∙ getD-append-add (take at a) (take n (drop from s)) (k - at) 0
     ∙ getD-take n (drop from s) (k - at) 0 (omega arith) ∙ getD-drop from s (k - at) 0)))
+
+-- what was laid over the front of a list
+pub laid-over : (s a b : List ℕ) (n : ℕ) → n ≤ length s → n ≤ length a → Laid s 0 n a 0 b → b ≡ take n s ++ drop n a
+laid-over s a b n h l w =
+    let f : ℕ → ℕ = λ k. getD s k 0 in
+    written n f a b l (w .len)
+    (λ k m. ap (λ (i : ℕ). getD b i 0) (sym (zero-add k)) ∙ w .inside k m ∙ ap f (zero-add k))
+    (λ p m. w .above p (omega arith))
+    ∙ ap (λ (x : List ℕ). x ++ drop n a) (sym (list-of n f (take n s) (length-take-le n s h) (λ k m. getD-take n s k 0 m)))
 
 -- ---- marks
 

@@ -1,10 +1,10 @@
 -- What the public calls answer, by their tests.
-use mathlib.Core.Path.{_≡_, refl, sym, _∙_}
-use mathlib.Core.Bool.{Bool, true, false, cond, not, _||_}
+use mathlib.Core.Path.{_≡_, refl, sym, ap, ap₂, _∙_}
+use mathlib.Core.Bool.{Bool, true, false, cond, not, _||_, true≢false}
 use mathlib.Core.List.{List, [], _∷_}
 use Prim.Native.Nat.{ℕ}
 use native.Mathlib.Omega.{arith}
-use borrow.Author.Tests.{eqb-true}
+use borrow.Author.Tests.{eqb-true, ne-eqb}
 use lib.Dec.{eqb, lit<, lit≤}
 use Rattle.bits.specs.Bits.{AreBits, someOver, unpacked}
 use Rattle.bits.specs.Numbers.{answered}
@@ -40,6 +40,19 @@ fits-register w e = by-tests (eqb w 24) (eqb w 16) (eqb w 8) refl refl refl e
     by-tests false true c p q r e = rw (eqb-true w 16 q) (record { some = lit< tt; most = lit≤ tt; below = lit< tt })
     by-tests false false true p q r e = rw (eqb-true w 8 r) (record { some = lit< tt; most = lit≤ tt; below = lit< tt })
     by-tests false false false p q r e = absurd (let z : _≡_ {A = ℕ} 0 1 = cc in omega arith)
+
+-- of the three widths only 8 is neither 24 nor 16
+pub last-width : (w : ℕ) → otherWidth w ≡ false → (w ≡ 24 → ⊥) → (w ≡ 16 → ⊥) → w ≡ 8
+unfolding otherWidth
+last-width w e not-24 not-16 = eqb-true w 8 (by-tests (eqb w 8) (eqb w 16) (eqb w 24) e (ne-eqb w 16 not-16) (ne-eqb w 24 not-24))
+  where
+    by-tests : (a b c : Bool) → not (a || b || c) ≡ false → b ≡ false → c ≡ false → a ≡ true
+    by-tests true b c e p q = refl
+    by-tests false b c e p q = absurd (true≢false (ap₂ (λ (x y : Bool). not (x || y)) (sym p) (sym q) ∙ e))
+
+-- the sum with a width's own generator
+pub summed-with : (w n g v : ℕ) (bits : List ℕ) → w ≡ n → generator n ≡ g → v ≡ checksum n g bits → v ≡ checksum w (generator w) bits
+summed-with w n g v bits is own e = e ∙ ap (λ (x : ℕ). checksum n x bits) (sym own) ∙ ap (λ (x : ℕ). checksum x (generator x) bits) (sym is)
 
 -- number 0 of bits: both tests were passed
 pub bits-done : (w : ℕ) (bits : List ℕ) → bitsNumber w bits ≡ 0 → Generator w (generator w) × AreBits bits

@@ -1,7 +1,7 @@
 -- The register's fold is the remainder, over any width and any generator; and the loops that feed it.
 use mathlib.Core.Path.{_≡_, refl, sym, ap, ap₂, _∙_}
 use mathlib.Core.List.{List, [], _∷_, _++_}
-use Prim.Native.Nat.{ℕ, zero, suc, _+_, _-_, _*_, _/_, _%_, _^_, _≤_, _<_}
+use Prim.Native.Nat.{ℕ, zero, suc, _+_, _-_, _*_, _^_, _≤_, _<_}
 use native.Mathlib.Nat.{zero-mul, one-mul, add-zero, zero-add, add-suc, pow-suc, lt-of-lt-of-le}
 use native.Mathlib.Numerals.{add-one}
 use native.Mathlib.Omega.{arith}
@@ -12,7 +12,6 @@ use lib.Pow.{pow-pos, pow-mono, pow-lt}
 use lib.Seq.{drop-cons}
 use Rattle.bits.specs.Bits.{AreBits, digits, unpacked}
 use Rattle.bits.proofs.Lists.{bits-zeros}
-use Rattle.bits.proofs.Digits.{digits-cons}
 use Rattle.checksum.specs.Crc.{reduce, divideOn, remainder, checksum}
 use Rattle.checksum.specs.steps.Register.{stepped, fed}
 use Rattle.checksum.proofs.Division.{reduce-lt, reduce-small, reduce-top, reduce-xor, divide-xor}
@@ -102,21 +101,12 @@ module _ (w g : ℕ) where
   fed-lt r [] hg hr = hr
   fed-lt r (b ∷ a) hg hr = fed-lt (stepped w g r b) a hg (stepped-lt r b hg)
 
-  -- ---- loops that feed it: the k digits left of a number, the bits left from i on, the octets left from i on
+  -- ---- loops that feed it: the bits left from i on, the octets left from i on
 
   pub fed-append : (r : ℕ) (a b : List ℕ) → fed w g r (a ++ b) ≡ fed w g (fed w g r a) b
   unfolding fed
   fed-append r [] b = refl
   fed-append r (x ∷ a) b = fed-append (stepped w g r x) a b
-
-  pub digit-turn : (r k x : ℕ) → 0 < k → fed w g r (digits k x) ≡ fed w g (stepped w g r (x / 2 ^ (k - 1) % 2)) (digits (k - 1) x)
-  unfolding fed
-  digit-turn r k x h = rw (digits-cons k x h)
-
-  pub digit-end : (r k x : ℕ) → k ≤ 0 → fed w g r (digits k x) ≡ r
-  unfolding fed digits
-  digit-end r zero x h = refl
-  digit-end r (suc k) x h = absurd (omega arith)
 
   pub bit-turn : (r i : ℕ) (s : List ℕ) → i < length s → fed w g r (drop i s) ≡ fed w g (stepped w g r (getD s i 0)) (drop (i + 1) s)
   unfolding fed

@@ -1,13 +1,18 @@
 -- What the code's shifts and masks compute at 32 bits, over any width up to 24.
 use mathlib.Core.Path.{_≡_, sym, ap, ap₂, _∙_, subst}
+use mathlib.Core.List.{List}
 use Prim.Native.Nat.{ℕ, _+_, _-_, _*_, _/_, _%_, _^_, _≤_, _<_}
-use native.Mathlib.Nat.{zero-mul, one-mul, mod-eq-of-lt}
+use native.Mathlib.Nat.{zero-mul, one-mul, add-zero, mod-eq-of-lt, mul-mod-left, mul-div-cancel}
 use native.Mathlib.Omega.{arith}
 use lib.Bits.{bitXor, bitAnd, and-mask, xor-lt, xor-zero-r}
 use lib.Dec.{lit<}
-use lib.Pow.{pow-pos, shl-exact, shl-lt, shr-lt}
+use lib.ListN.{getD}
+use lib.Pow.{pow-pos, mod-pow-add, shl-exact, shl-lt, shr-lt}
+use Rattle.bits.specs.Bits.{digits}
 use Rattle.checksum.specs.Crc.{reduce}
-use Rattle.checksum.specs.steps.Register.{stepped}
+use Rattle.checksum.specs.steps.Register.{stepped, fed}
+use Rattle.checksum.specs.steps.Table.{Left, generatorOf}
+use Rattle.checksum.proofs.AtOnce.{fed-at-once}
 
 -- `(reg << 1) ^ (bit << w)` and `(1 << w) - 1`
 abbrev pub raw : ℕ → ℕ → ℕ → ℕ
@@ -50,3 +55,29 @@ module _ (w g reg bit : ℕ) (hw : w ≤ 24) (hr : reg < 2 ^ w) (hb : bit < 2) w
   less-generator n =
       let h : raw w reg bit / 2 ^ w < 2 = shr-lt 1 w raw-lt in
       ap (bitXor (bitAnd (raw w reg bit) (mask w))) (sym (one-mul g)) ∙ with-top 1 (omega arith)
+
+-- ---- one look at a table
+
+module _ (w reg x : ℕ) (t : List ℕ) (h : Left w t) (hr : reg < 2 ^ w) (hx : x < 256) where
+  -- `(reg >> (w - 8)) ^ x`
+  abbrev pub place : ℕ
+  place = bitXor (reg / 2 ^ (w - 8)) x
+
+  below : w - 8 + 8 ≡ w
+  below = omega (arith, h .octet)
+
+  pub place-lt : place < 256
+  place-lt = xor-lt 8 (reg / 2 ^ (w - 8)) x (shr-lt 8 (w - 8) (subst (λ (n : ℕ). reg < 2 ^ n) (omega (arith, h .octet)) hr)) hx
+
+  -- `(reg << 8) & mask`
+  moved-up : bitAnd ((reg * 2 ^ 8) % 2 ^ 32) (mask w) ≡ reg % 2 ^ (w - 8) * 2 ^ 8
+  moved-up =
+      ap₂ (λ (y z : ℕ). bitAnd y (z - 1)) (shl-exact w 8 32 hr (omega (arith, h .fits .most))) (one-shifted w (h .fits .most))
+      ∙ and-mask (reg * 2 ^ 8) w ∙ ap (λ (n : ℕ). (reg * 2 ^ 8) % 2 ^ n) (sym below)
+      ∙ mod-pow-add (reg * 2 ^ 8) (w - 8) 8
+      ∙ ap₂ (λ (y z : ℕ). y % 2 ^ (w - 8) * 2 ^ 8 + z) (mul-div-cancel reg (pow-pos 8)) (mul-mod-left reg (2 ^ 8))
+      ∙ add-zero (reg % 2 ^ (w - 8) * 2 ^ 8)
+
+  pub one-look : bitXor (bitAnd ((reg * 2 ^ 8) % 2 ^ 32) (mask w)) (getD t place 0) ≡ fed w (generatorOf t) reg (digits 8 x)
+  one-look =
+      ap₂ bitXor moved-up (h .entry place place-lt) ∙ sym (fed-at-once w (generatorOf t) 8 (w - 8) reg x below hr)

@@ -1,26 +1,29 @@
 // Checksums where the width and the generator are known to go together.
 use crate::register;
+use crate::table;
 ghost use mathlib.Core.Path.{_≡_};
-ghost use Prim.Native.Nat.{_+_, _*_, _≤_};
-ghost use lib.ListN.{length};
+ghost use mathlib.Core.Bool.{false};
+ghost use Prim.Native.Nat.{_+_, _-_, _*_, _≤_};
+ghost use lib.ListN.{length, take};
 ghost use lib.Seq.{sets};
 ghost use Rattle.bits.specs.Bits.{AreBits, unpacked};
 ghost use Rattle.checksum.specs.Crc.{checksum, attached};
+ghost use Rattle.checksum.specs.Promises.{generator, otherWidth};
 ghost use Rattle.checksum.specs.steps.Testing.{checks};
 ghost use Rattle.checksum.specs.steps.Register.{Generator};
 
-// The checksum of packed octets.
-pub fn sum_octets(octets: &[u8], w: u32, g: u32) -> u32
-    requires { ⌜ Generator w g ⌝ }
-    ensures { λ r. ⌜ r ≡ checksum w g (unpacked (now (octets .entry))) ⌝ }
+// The checksum of packed octets, from the table of its width.
+pub fn sum_octets(octets: &[u8], w: u32) -> u32
+    requires { ⌜ otherWidth w ≡ false ⌝ }
+    ensures { λ r. ⌜ r ≡ checksum w (generator w) (unpacked (now (octets .entry))) ⌝ }
 {
-    let mut r: u32 = 0;
-    let mut i = 0;
-    while i < octets.len() {
-        r = register::octet(r, octets[i], w, g);
-        i += 1;
+    if w == 24 {
+        return table::sum24a(octets);
     }
-    r
+    if w == 16 {
+        return table::sum16(octets);
+    }
+    table::sum8(octets)
 }
 
 // The checksum of bits that stand one to an octet.
@@ -39,22 +42,22 @@ pub fn sum_bits(bits: &[u8], w: u32, g: u32) -> u32
 }
 
 // Writes the bits of packed octets, and then the bits of their checksum.
-pub fn attach(octets: &[u8], w: u32, g: u32, out: &mut [u8])
-    requires { ⌜ Generator w g × (8 * length (now octets) + w ≤ length (now out)) ⌝ }
-    ensures { λ _. ⌜ now (out .exit) ≡ sets (now (out .entry)) 0 (attached w g (unpacked (now (octets .entry)))) ⌝ }
+pub fn attach(octets: &[u8], w: u32, out: &mut [u8])
+    requires { ⌜ (otherWidth w ≡ false) × (8 * length (now octets) + w ≤ length (now out)) ⌝ }
+    ensures { λ _. ⌜ now (out .exit) ≡ sets (now (out .entry)) 0 (attached w (generator w) (unpacked (now (octets .entry)))) ⌝ }
 {
     bits::inner::unpack(octets, out, 0);
-    let sum = sum_octets(octets, w, g);
+    let sum = sum_octets(octets, w);
     let a = 8 * octets.len();
     bits::inner::put_number(out, a, sum, w);
 }
 
-// Whether the last w bits are the checksum of those before them: recomputed, and compared.
-pub fn is_attached(bits: &[u8], w: u32, g: u32) -> bool
-    requires { ⌜ Generator w g × (w ≤ length (now bits)) × AreBits (now bits) ⌝ }
-    ensures { λ r. ⌜ r ≡ checks w g (now (bits .entry)) ⌝ }
+// Whether the last w bits are the checksum of those before them, which `octets` has packed: recomputed, and compared.
+pub fn is_attached(bits: &[u8], octets: &[u8], w: u32) -> bool
+    requires { ⌜ (otherWidth w ≡ false) × (w ≤ length (now bits)) × AreBits (now bits) × (unpacked (now octets) ≡ take (length (now bits) - w) (now bits)) ⌝ }
+    ensures { λ r. ⌜ r ≡ checks w (generator w) (now (bits .entry)) ⌝ }
 {
     let a = bits.len() - w as usize;
-    let sum = sum_bits(&bits[..a], w, g);
+    let sum = sum_octets(octets, w);
     sum == bits::inner::get_number(bits, a, w)
 }

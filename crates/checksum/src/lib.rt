@@ -1,6 +1,7 @@
 // The checksums of section 5.1.1, of single bits and of packed octets, for each of the three widths.
 pub mod inner;
 mod register;
+mod table;
 
 use bits::number::DONE;
 use bits::number::NO_BIT;
@@ -9,11 +10,11 @@ ghost use mathlib.Core.Path.{_≡_};
 ghost use Rattle.checksum.specs.Promises.{generator, otherWidth, bitsNumber, OfBits, OfOctets};
 
 // The generators of 5.1.1 without their top bit.
-pub const GEN24A: u32 = 0x864CFB;
+const GEN24A: u32 = 0x864CFB;
 
-pub const GEN16: u32 = 0x1021;
+const GEN16: u32 = 0x1021;
 
-pub const GEN8: u32 = 0x9B;
+const GEN8: u32 = 0x9B;
 
 // A call's answer: its number, and the checksum, 0 with a refusal.
 pub struct Sum {
@@ -79,7 +80,7 @@ pub fn of_octets(width: usize, octets: &[u8]) -> Sum
             value: 0,
         };
     }
-    let value = inner::sum_octets(octets, width as u32, generator_of(width));
+    let value = inner::sum_octets(octets, width as u32);
     Sum {
         number: DONE,
         value,

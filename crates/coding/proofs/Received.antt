@@ -3,10 +3,9 @@
 use mathlib.Core.Path.{_≡_, refl, sym, ap, ap₂, _∙_, subst}
 use mathlib.Core.Bool.{Bool, true, true≢false}
 use mathlib.Core.List.{List, _++_}
-use Prim.Native.Nat.{ℕ, _+_, _*_, _^_, _≤_, _<_}
+use Prim.Native.Nat.{ℕ, _*_, _^_, _<_}
 use native.Mathlib.Omega.{arith}
 use lib.ListN.{length, drop}
-use lib.Seq.{sets, sets-eq}
 use Rattle.bits.specs.Bits.{AreOctets, digits, valueOf, unpacked, packed}
 use Rattle.bits.specs.declared.count.Terms.{Terms}
 use Rattle.bits.proofs.Digits.{length-digits, digits-bits, digits-value, value-lt}
@@ -137,17 +136,10 @@ module _ (R : List ℕ) (octets : ℕ) (terms : Terms) (bits : List ℕ) (h : Re
       }
 
   pub decided-found : radioBits R b t terms (length bits) ≡ bits → checked t ≡ true
-      → (out out' : List ℕ) → octets ≤ length out → out' ≡ sets out 0 (packed octets t) → Decided R octets terms bits out (record { number = 0; count = octets }) out'
-  decided-found e s out out' enough w =
+      → (out out' : List ℕ) → out' ≡ packed octets t ++ drop octets out → Decided R octets terms bits out (record { number = 0; count = octets }) out'
+  decided-found e s out out' w =
       let some = tests-enough e s in
-      let long : length (packed octets t) ≡ octets = length-packed octets t in
-      let fits : 0 + length (packed octets t) ≤ length out = omega arith in
-      let end : 0 + length (packed octets t) ≡ octets = omega arith in
       record {
-        found = λ _. (
-          refl,
-          refl,
-          w ∙ sets-eq (packed octets t) out 0 fits ∙ ap₂ (λ (x : List ℕ) (n : ℕ). x ++ drop n out) (sym (received-is some)) end,
-        );
+        found = λ _. (refl, refl, w ∙ ap (λ (x : List ℕ). x ++ drop octets out) (sym (received-is some)));
         unsent = λ none. absurd (true≢false (sym some ∙ none));
       }

@@ -64,16 +64,18 @@ pub fn send(profile: &[u8], block: &[u8], terms: Terms, g: CodedBits, out: &mut 
     send_accepted(profile, block, terms, g, out)
 }
 
-// Decides on bits that no number before 14 refuses; `room` is room for the transport bits. Nothing is written before everything is tested.
+// Decides on bits that no number before 14 refuses; `room` is room for the transport bits, `block` for the block. Nothing is written before
+// everything is tested.
 fn receive_through(
     profile: &[u8],
     octets: usize,
     terms: Terms,
     bits: &[u8],
     room: &mut [u8],
+    block: &mut [u8],
     out: &mut [u8],
 ) -> Written
-    requires { ⌜ Receivable (now profile) octets terms (now bits) × (16408 ≤ length (now room)) × (octets ≤ length (now out)) ⌝ }
+    requires { ⌜ Receivable (now profile) octets terms (now bits) × (16408 ≤ length (now room)) × (2048 ≤ length (now block)) × (octets ≤ length (now out)) ⌝ }
     ensures { λ r. ⌜ Decided (now (profile .entry)) octets terms (now (bits .entry)) (now (out .entry)) r (now (out .exit)) ⌝ }
 {
     let plan = cutting::inner::plan_accepted(profile, octets);
@@ -84,20 +86,20 @@ fn receive_through(
             count: 0,
         };
     }
-    if !cutting::inner::is_attached(&room[..b]) {
+    if !cutting::inner::detach(&room[..b], octets, block) {
         return Written {
             number: UNSENT,
             count: 0,
         };
     }
-    bits::inner::pack(&room[..b], out, octets);
+    bits::inner::lay(block, 0, out, 0, octets);
     Written {
         number: DONE,
         count: octets,
     }
 }
 
-// The longest block has 16,408 transport bits.
+// The longest block has 2,048 octets and 16,408 transport bits.
 fn receive_accepted(
     profile: &[u8],
     octets: usize,
@@ -109,7 +111,8 @@ fn receive_accepted(
     ensures { λ r. ⌜ Decided (now (profile .entry)) octets terms (now (bits .entry)) (now (out .entry)) r (now (out .exit)) ⌝ }
 {
     let mut room = [0u8; 16408];
-    receive_through(profile, octets, terms, bits, &mut room, out)
+    let mut block = [0u8; 2048];
+    receive_through(profile, octets, terms, bits, &mut room, &mut block, out)
 }
 
 // Receives bits as a transport block of a bits: its number, and the count written.

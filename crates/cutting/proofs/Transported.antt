@@ -1,6 +1,6 @@
 -- The transport bits of a block, a plan that goes with them, and the block from its transport bits.
-use mathlib.Core.Path.{_≡_, sym, ap, _∙_}
-use mathlib.Core.Bool.{true}
+use mathlib.Core.Path.{_≡_, refl, sym, ap, _∙_}
+use mathlib.Core.Bool.{true, false}
 use mathlib.Core.List.{List}
 use Prim.Native.Nat.{ℕ, _+_, _-_, _*_, _≤_}
 use native.Mathlib.Omega.{arith}
@@ -12,6 +12,7 @@ use Rattle.bits.proofs.Lists.{bits-append, bits-take}
 use Rattle.bits.proofs.Digits.{length-digits, digits-bits}
 use Rattle.bits.proofs.Octets.{length-unpacked, unpacked-bits, packed-front, packed-unpacked, unpacked-packed}
 use Rattle.checksum.specs.Crc.{attached, checksum, gen24A}
+use Rattle.checksum.specs.Promises.{generator, otherWidth}
 use Rattle.checksum.specs.steps.Register.{Generator}
 use Rattle.checksum.proofs.Attachment.{checks-sound, checks-complete}
 use Rattle.cutting.specs.Plan.{blockBits}
@@ -23,6 +24,15 @@ use Rattle.cutting.proofs.PlanFields.{bits-is}
 
 pub generator-24 : Generator 24 gen24A
 generator-24 = record { some = lit< tt; most = lit≤ tt; below = lit< tt }
+
+-- 24 is a width, and its generator is the one of step 1
+pub width-24 : otherWidth 24 ≡ false
+unfolding otherWidth
+width-24 = refl
+
+pub own-24 : generator 24 ≡ gen24A
+unfolding generator
+own-24 = refl
 
 pub length-transport : (block : List ℕ) → length (transport block) ≡ blockBits (length block)
 unfolding transport attached blockBits
@@ -54,17 +64,22 @@ pub packed-transport : (block : List ℕ) → AreOctets block → packed (length
 unfolding transport attached
 packed-transport block whole = packed-front (length block) (unpacked block) _ (length-unpacked block) ∙ packed-unpacked block whole
 
+-- the octets of transport bits are the bits before the last 24, packed
+pub unpacked-before : (octets : ℕ) (u : List ℕ) → length u ≡ blockBits octets → AreBits u → unpacked (packed octets u) ≡ take (length u - 24) u
+unfolding blockBits
+unpacked-before octets u size single =
+    let n : 8 * octets ≡ length u - 24 = omega arith in
+    let p = take (8 * octets) u in
+    let long : length p ≡ 8 * octets = length-take-le (8 * octets) u (omega arith) in
+    let there : packed octets u ≡ packed octets p = ap (packed octets) (sym (take-append-drop (8 * octets) u)) ∙ packed-front octets p (drop (8 * octets) u) long in
+    ap unpacked there ∙ unpacked-packed octets p (bits-take (8 * octets) u single) long ∙ ap (λ (k : ℕ). take k u) n
+
 -- bits with their checksum are those of their octets
 pub transport-packed : (octets : ℕ) (u : List ℕ) → length u ≡ blockBits octets → AreBits u → checked u ≡ true
     → transport (packed octets u) ≡ u
 unfolding transport blockBits checked
 transport-packed octets u size single e =
-    let n : length u - 24 ≡ 8 * octets = omega arith in
-    let p = take (8 * octets) u in
-    let long : length p ≡ 8 * octets = length-take-le (8 * octets) u (omega arith) in
-    let there : packed octets u ≡ packed octets p = ap (packed octets) (sym (take-append-drop (8 * octets) u)) ∙ packed-front octets p (drop (8 * octets) u) long in
-    let back : unpacked (packed octets u) ≡ p = ap unpacked there ∙ unpacked-packed octets p (bits-take (8 * octets) u single) long in
-    ap (attached 24 gen24A) (back ∙ ap (λ (k : ℕ). take k u) (sym n)) ∙ sym (checks-sound 24 gen24A u single (omega arith) e)
+    ap (attached 24 gen24A) (unpacked-before octets u size single) ∙ sym (checks-sound 24 gen24A u single (omega arith) e)
 
 pub transport-checked : (block : List ℕ) → checked (transport block) ≡ true
 unfolding transport checked

@@ -7,7 +7,7 @@ ghost use mathlib.Core.Path.{_≡_};
 ghost use Prim.Native.Nat.{_+_, _*_, _≤_, _<_};
 ghost use lib.ListN.{length, take, drop};
 ghost use lib.Seq.{sets};
-ghost use Rattle.bits.specs.Bits.{AreBits};
+ghost use Rattle.bits.specs.Bits.{AreBits, packed};
 ghost use Rattle.profile.specs.Promises.{judged};
 ghost use Rattle.cutting.specs.Plan.{blockBits, ownBits};
 ghost use Rattle.cutting.specs.Transport.{transport};
@@ -49,15 +49,17 @@ pub fn attach(block: &[u8], bits: &mut [u8])
     requires { ⌜ (length (now block) ≤ 2048) × (blockBits (length (now block)) ≤ length (now bits)) ⌝ }
     ensures { λ _. ⌜ now (bits .exit) ≡ sets (now (bits .entry)) 0 (transport (now (block .entry))) ⌝ }
 {
-    checksum::inner::attach(block, 24, checksum::GEN24A, bits);
+    checksum::inner::attach(block, 24, bits);
 }
 
-// Whether bits end with the checksum of those before it.
-pub fn is_attached(bits: &[u8]) -> bool
-    requires { ⌜ AreBits (now bits) × (24 ≤ length (now bits)) ⌝ }
-    ensures { λ r. ⌜ r ≡ checked (now (bits .entry)) ⌝ }
+// Packs the octets of transport bits in front of `block`, and says whether the bits behind theirs are their checksum. Packed first, they are summed
+// an octet at a time.
+pub fn detach(bits: &[u8], octets: usize, block: &mut [u8]) -> bool
+    requires { ⌜ AreBits (now bits) × (length (now bits) ≡ blockBits octets) × (octets ≤ length (now block)) ⌝ }
+    ensures { λ r. ⌜ (r ≡ checked (now (bits .entry))) × (now (block .exit) ≡ sets (now (block .entry)) 0 (packed octets (now (bits .entry)))) ⌝ }
 {
-    checksum::inner::is_attached(bits, 24, checksum::GEN24A)
+    bits::inner::pack(bits, block, octets);
+    checksum::inner::is_attached(bits, &block[..octets], 24)
 }
 
 // Lays a block's own bits in front of the word, and filler behind them.

@@ -1,11 +1,8 @@
 -- `checksum::of_octets` meets its contract.
-use mathlib.Core.Path.{sym, ap, _∙_}
-use Prim.Native.Nat.{ℕ}
+use mathlib.Core.Path.{sym, _∙_}
 use native.Mathlib.Omega.{arith}
 use denote.Ref.{now}
 use borrow.Author.Needs.{needs}
-use Rattle.bits.specs.Bits.{unpacked}
-use Rattle.checksum.specs.Crc.{checksum}
 use Rattle.checksum.proofs.Answers.{fits-register, octets-refused, octets-summed}
 use Rattle.checksum.proofs.of_octets.Statement.{statement}
 use Rattle.checksum.proofs.of_octets.Tie as tie
@@ -23,20 +20,14 @@ cast-sum-octets c =
     let fits = fits-register (c .before .before .before .args .width) (sym (c .before .is-other-width .ensures) ∙ c .if1 .left) in
     omega (arith, fits .most)
 
-generator-of-requires : tie.Need-generator-of-requires
-generator-of-requires c κs = search needs
-
 sum-octets-requires : tie.Need-sum-octets-requires
-sum-octets-requires c κs =
-    let u = c .before .before in
-    rw (c .generator-of .ensures) (fits-register (u .before .before .args .width) (sym (u .is-other-width .ensures) ∙ c .before .if1 .left))
+sum-octets-requires c κs = sym (c .before .is-other-width .ensures) ∙ c .if1 .left
 
 returns-2 : tie.Need-returns-2
 returns-2 c =
-    let u = c .before .before .before in
+    let u = c .before .before in
     let a = u .before .before .args in
-    let sum = c .sum-octets .ensures ∙ ap (λ (g : ℕ). checksum (a .width) g (unpacked (now (a .octets)))) (c .before .generator-of .ensures) in
-    octets-summed (a .width) (now (a .octets)) (sym (u .is-other-width .ensures) ∙ c .before .before .if1 .left) (c .sum-octets .result) sum
+    octets-summed (a .width) (now (a .octets)) (sym (u .is-other-width .ensures) ∙ c .before .if1 .left) (c .sum-octets .result) (c .sum-octets .ensures)
 
 pub of-octets-spec : {M : Type 1} → statement M
 of-octets-spec =
@@ -45,6 +36,5 @@ of-octets-spec =
     is-other-width-requires
     returns
     cast-sum-octets
-    generator-of-requires
     sum-octets-requires
     returns-2)

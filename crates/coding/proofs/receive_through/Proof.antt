@@ -1,205 +1,158 @@
 -- `coding::receive_through` meets its contract.
 use mathlib.Core.Path.{_≡_, sym, ap, _∙_, subst}
 use mathlib.Core.Bool.{true, true≢false}
-use mathlib.Core.List.{List}
-use Prim.Native.Nat.{ℕ, _<_}
+use mathlib.Core.List.{List, _++_}
+use Prim.Native.Nat.{ℕ, _≤_}
 use native.Mathlib.Omega.{arith}
-use lib.ListN.{length, getD, take}
-use lib.Seq.{sets, length-take-le}
+use lib.ListN.{length, take, drop}
+use lib.Seq.{length-take-le}
 use denote.Ref.{now}
 use borrow.Author.Tests.{not-true, not-false}
 use borrow.Author.Needs.{needs}
-use Rattle.bits.specs.Bits.{packed}
+use Rattle.bits.specs.Bits.{AreBits, packed}
+use Rattle.bits.proofs.Laid.{laid-over}
+use Rattle.bits.proofs.Octets.{length-packed}
 use Rattle.cutting.specs.Plan.{blockBits}
 use Rattle.cutting.specs.steps.Plans.{checked}
 use Rattle.cutting.proofs.Plans.{plan-passed}
 use Rattle.cutting.proofs.PlanFields.{bits-is}
+use Rattle.cutting.proofs.Transported.{front-set}
+use Rattle.coding.specs.Joining.{radioBits}
 use Rattle.coding.specs.steps.Receiving.{gathered}
 use Rattle.coding.proofs.Gathered.{has-room-of, gathered-length, gathered-bits}
 use Rattle.coding.proofs.Received.{decided-unsent, decided-found}
 use Rattle.coding.proofs.receive_through.Statement.{statement}
 use Rattle.coding.proofs.receive_through.Tie as tie
 
+-- ---- what is known once all blocks are rebuilt
+
+abbrev start : tie.Else1 → tie.Start
+start c = c .before .before .before .before .before .before .before .before .before .before .before
+
+abbrev profile : tie.Else1 → List ℕ
+profile c = now (start c .args .profile)
+
+abbrev received : tie.Else1 → List ℕ
+received c = now (start c .args .bits)
+
+-- the transport bits are the front of the room
+abbrev transported : tie.Else1 → List ℕ
+transported c = gathered (profile c) (blockBits (start c .args .octets)) (start c .args .terms) (received c)
+
+abbrev room : tie.Else1 → List ℕ
+room c = c .before .before .before .rebuild-bits .last .1 .1 .1 .1 .0
+
+abbrev size : tie.Else1 → ℕ
+size c = c .before .before .before .before .before .plan-accepted .result .bits
+
+size-is : (c : tie.Else1) → size c ≡ blockBits (start c .args .octets)
+size-is c =
+    let plan = c .before .before .before .before .before .plan-accepted in
+    bits-is (profile c) (start c .args .octets) (plan .result) (plan .ensures) (start c .pre .0 .taken)
+
+roomy : (c : tie.Else1) → size c ≤ length (room c)
+unfolding blockBits
+roomy c = omega (arith, size-is c, plan-passed (profile c) (start c .args .octets) (start c .pre .0 .taken) .2, start c .pre .1, c .before .before .before .rebuild-bits .kept)
+
+rebuilt : (c : tie.Else1)
+    → (radioBits (profile c) (blockBits (start c .args .octets)) (transported c) (start c .args .terms) (length (received c)) ≡ received c)
+    × (take (blockBits (start c .args .octets)) (room c) ≡ transported c)
+rebuilt c = rw (size-is c) at (c .before .before .before .rebuild-bits .ensures .sent (not-false _ (c .if1 .left)))
+
+front : (c : tie.Else1) → take (size c) (room c) ≡ transported c
+front c = ap (λ (n : ℕ). take n (room c)) (size-is c) ∙ rebuilt c .1
+
+single : (c : tie.Else1) → AreBits (transported c)
+single c =
+    let a = start c .args in
+    gathered-bits (profile c) (blockBits (a .octets)) (a .terms) (received c) (has-room-of (profile c) (a .octets) (a .terms) (received c) (start c .pre .0))
+
+long : (c : tie.Else1) → length (transported c) ≡ blockBits (start c .args .octets)
+long c =
+    let a = start c .args in
+    gathered-length (profile c) (blockBits (a .octets)) (a .terms) (received c) (has-room-of (profile c) (a .octets) (a .terms) (received c) (start c .pre .0))
+
+-- the block has room
+short : (c : tie.Else1) → start c .args .octets ≤ length (now (start c .args .block))
+short c = omega (arith, plan-passed (profile c) (start c .args .octets) (start c .pre .0 .taken) .2, start c .pre .2)
+
 plan-accepted-requires : tie.Need-plan-accepted-requires
-plan-accepted-requires c κs = let st = c .before .before .before .before in
-    let a = st .args in
-    let R = now (a .profile) in
-    let s = now (a .bits) in
-    let h = st .pre .0 in
-    let ok = plan-passed R (a .octets) (h .taken) in
-    ok .0
+plan-accepted-requires c κs =
+    let st = c .before .before .before .before .before in
+    plan-passed (now (st .args .profile)) (st .args .octets) (st .pre .0 .taken) .0
 
 rebuild-bits-requires : tie.Need-rebuild-bits-requires
-rebuild-bits-requires c κs = let st = c .before .before .before .before .before .before in
-    let a = st .args in
-    let R = now (a .profile) in
-    let s = now (a .bits) in
-    let h = st .pre .0 in
-    let ok = plan-passed R (a .octets) (h .taken) in
-    let plan = c .before .plan-accepted in
-    let count : plan .result .bits ≡ blockBits (a .octets) = bits-is R (a .octets) (plan .result) (plan .ensures) (h .taken) in
-    (record { octets = a .octets; receivable = h; plan = plan .ensures }, st .pre .1)
+rebuild-bits-requires c κs =
+    let st = c .before .before .before .before .before .before .before in
+    (record { octets = st .args .octets; receivable = st .pre .0; plan = c .before .plan-accepted .ensures }, st .pre .1)
 
 same-length : tie.Need-same-length
 same-length c = search needs
 
 returns : tie.Need-returns
-returns c = let st = c .before .before .before .before .before .before .before .before .before .before in
+returns c =
+    let st = c .before .before .before .before .before .before .before .before .before .before .before in
     let a = st .args in
-    let R = now (a .profile) in
-    let s = now (a .bits) in
-    let h = st .pre .0 in
-    let ok = plan-passed R (a .octets) (h .taken) in
     let plan = c .before .before .before .before .before .plan-accepted in
-    let count : plan .result .bits ≡ blockBits (a .octets) = bits-is R (a .octets) (plan .result) (plan .ensures) (h .taken) in
-    let tried = c .before .before .before .rebuild-bits in
-    let long = tried .kept .1 .1 .1 .1 .0 in
-    let told = rw count at (tried .ensures .other (not-true _ (c .if1 .taken))) in
-    decided-unsent R (a .octets) (a .terms) s h (λ all sum. told all) (now (a .out))
+    let count : plan .result .bits ≡ blockBits (a .octets) = bits-is (now (a .profile)) (a .octets) (plan .result) (plan .ensures) (st .pre .0 .taken) in
+    let told = rw count at (c .before .before .before .rebuild-bits .ensures .other (not-true _ (c .if1 .taken))) in
+    decided-unsent (now (a .profile)) (a .octets) (a .terms) (now (a .bits)) (st .pre .0) (λ all sum. told all) (now (a .out))
 
-slice-reshare-prefix-is-attached : tie.Need-slice-reshare-prefix-is-attached
-unfolding blockBits
-slice-reshare-prefix-is-attached c = let st = c .before .before .before .before .before .before .before .before .before .before in
-    let a = st .args in
-    let R = now (a .profile) in
-    let s = now (a .bits) in
-    let h = st .pre .0 in
-    let ok = plan-passed R (a .octets) (h .taken) in
-    let plan = c .before .before .before .before .before .plan-accepted in
-    let count : plan .result .bits ≡ blockBits (a .octets) = bits-is R (a .octets) (plan .result) (plan .ensures) (h .taken) in
-    let tried = c .before .before .before .rebuild-bits in
-    let long = tried .kept .1 .1 .1 .1 .0 in
-    omega (arith, count, ok .2, st .pre .1, long)
+slice-reshare-prefix-detach : tie.Need-slice-reshare-prefix-detach
+slice-reshare-prefix-detach c = roomy c
 
-slice-aggregate-is-attached : tie.Need-slice-aggregate-is-attached
-unfolding blockBits
-slice-aggregate-is-attached c = let st = c .before .before .before .before .before .before .before .before .before .before .before in
-    let a = st .args in
-    let R = now (a .profile) in
-    let s = now (a .bits) in
-    let h = st .pre .0 in
-    let ok = plan-passed R (a .octets) (h .taken) in
-    let plan = c .before .before .before .before .before .before .plan-accepted in
-    let count : plan .result .bits ≡ blockBits (a .octets) = bits-is R (a .octets) (plan .result) (plan .ensures) (h .taken) in
-    let tried = c .before .before .before .before .rebuild-bits in
-    let long = tried .kept .1 .1 .1 .1 .0 in
-    sym (length-take-le (plan .result .bits) (tried .last .1 .1 .1 .1 .0) (omega (arith, count, ok .2, st .pre .1, long)))
+slice-aggregate-detach : tie.Need-slice-aggregate-detach
+slice-aggregate-detach c = sym (length-take-le (size (c .before)) (room (c .before)) (roomy (c .before)))
 
-is-attached-requires : tie.Need-is-attached-requires
-unfolding blockBits
-is-attached-requires c κs = let st = c .before .before .before .before .before .before .before .before .before .before .before in
-    let a = st .args in
-    let R = now (a .profile) in
-    let s = now (a .bits) in
-    let h = st .pre .0 in
-    let ok = plan-passed R (a .octets) (h .taken) in
-    let plan = c .before .before .before .before .before .before .plan-accepted in
-    let count : plan .result .bits ≡ blockBits (a .octets) = bits-is R (a .octets) (plan .result) (plan .ensures) (h .taken) in
-    let tried = c .before .before .before .before .rebuild-bits in
-    let long = tried .kept .1 .1 .1 .1 .0 in
-    let is = rw count at (tried .ensures .sent (not-false _ (c .before .if1 .left))) in
-    let t = gathered R (blockBits (a .octets)) (a .terms) s in
-    let front : take (plan .result .bits) (tried .last .1 .1 .1 .1 .0) ≡ t = ap (λ (n : ℕ). take n (tried .last .1 .1 .1 .1 .0)) count ∙ is .1 in
-    let single = gathered-bits R (blockBits (a .octets)) (a .terms) s (has-room-of R (a .octets) (a .terms) s h) in
-    let size : length t ≡ blockBits (a .octets) = gathered-length R (blockBits (a .octets)) (a .terms) s (has-room-of R (a .octets) (a .terms) s h) in
-    (λ k. subst (λ (l : List ℕ). getD l k 0 < 2) (sym front) (single k), rw (front, size) (omega arith))
+detach-requires : tie.Need-detach-requires
+detach-requires c κs =
+    let e = c .before .before in (
+      subst AreBits (sym (front e)) (single e),
+      ap length (front e) ∙ long e,
+      omega (arith, short e, start e .pre .3),
+    )
 
 same-length-2 : tie.Need-same-length-2
 same-length-2 c = search needs
 
-returns-2 : tie.Need-returns-2
-returns-2 c = let st = c .before .before .before .before .before .before .before .before .before .before .before .before .before in
-    let a = st .args in
-    let R = now (a .profile) in
-    let s = now (a .bits) in
-    let h = st .pre .0 in
-    let ok = plan-passed R (a .octets) (h .taken) in
-    let plan = c .before .before .before .before .before .before .before .before .plan-accepted in
-    let count : plan .result .bits ≡ blockBits (a .octets) = bits-is R (a .octets) (plan .result) (plan .ensures) (h .taken) in
-    let tried = c .before .before .before .before .before .before .rebuild-bits in
-    let long = tried .kept .1 .1 .1 .1 .0 in
-    let is = rw count at (tried .ensures .sent (not-false _ (c .before .before .before .if1 .left))) in
-    let t = gathered R (blockBits (a .octets)) (a .terms) s in
-    let front : take (plan .result .bits) (tried .last .1 .1 .1 .1 .0) ≡ t = ap (λ (n : ℕ). take n (tried .last .1 .1 .1 .1 .0)) count ∙ is .1 in
-    let single = gathered-bits R (blockBits (a .octets)) (a .terms) s (has-room-of R (a .octets) (a .terms) s h) in
-    let size : length t ≡ blockBits (a .octets) = gathered-length R (blockBits (a .octets)) (a .terms) s (has-room-of R (a .octets) (a .terms) s h) in
-    let told = c .before .is-attached .ensures in
-    decided-unsent R (a .octets) (a .terms) s h
-    (λ all sum. true≢false (sym sum ∙ ap checked (sym front) ∙ sym told ∙ not-true _ (c .if2 .taken))) (now (a .out))
-
-slice-reshare-prefix-pack : tie.Need-slice-reshare-prefix-pack
-unfolding blockBits
-slice-reshare-prefix-pack c = let st = c .before .before .before .before .before .before .before .before .before .before .before .before .before in
-    let a = st .args in
-    let R = now (a .profile) in
-    let s = now (a .bits) in
-    let h = st .pre .0 in
-    let ok = plan-passed R (a .octets) (h .taken) in
-    let plan = c .before .before .before .before .before .before .before .before .plan-accepted in
-    let count : plan .result .bits ≡ blockBits (a .octets) = bits-is R (a .octets) (plan .result) (plan .ensures) (h .taken) in
-    let tried = c .before .before .before .before .before .before .rebuild-bits in
-    let long = tried .kept .1 .1 .1 .1 .0 in
-    omega (arith, count, ok .2, st .pre .1, long)
-
-slice-aggregate-pack : tie.Need-slice-aggregate-pack
-unfolding blockBits
-slice-aggregate-pack c = let st = c .before .before .before .before .before .before .before .before .before .before .before .before .before .before in
-    let a = st .args in
-    let R = now (a .profile) in
-    let s = now (a .bits) in
-    let h = st .pre .0 in
-    let ok = plan-passed R (a .octets) (h .taken) in
-    let plan = c .before .before .before .before .before .before .before .before .before .plan-accepted in
-    let count : plan .result .bits ≡ blockBits (a .octets) = bits-is R (a .octets) (plan .result) (plan .ensures) (h .taken) in
-    let tried = c .before .before .before .before .before .before .before .rebuild-bits in
-    let long = tried .kept .1 .1 .1 .1 .0 in
-    sym (length-take-le (plan .result .bits) (tried .last .1 .1 .1 .1 .0) (omega (arith, count, ok .2, st .pre .1, long)))
-
-pack-requires : tie.Need-pack-requires
-unfolding blockBits
-pack-requires c κs = let st = c .before .before .before .before .before .before .before .before .before .before .before .before .before .before .before in
-    let a = st .args in
-    let R = now (a .profile) in
-    let s = now (a .bits) in
-    let h = st .pre .0 in
-    let ok = plan-passed R (a .octets) (h .taken) in
-    let plan = c .before .before .before .before .before .before .before .before .before .before .plan-accepted in
-    let count : plan .result .bits ≡ blockBits (a .octets) = bits-is R (a .octets) (plan .result) (plan .ensures) (h .taken) in
-    let tried = c .before .before .before .before .before .before .before .before .rebuild-bits in
-    let long = tried .kept .1 .1 .1 .1 .0 in
-    let is = rw count at (tried .ensures .sent (not-false _ (c .before .before .before .before .before .if1 .left))) in
-    let t = gathered R (blockBits (a .octets)) (a .terms) s in
-    let front : take (plan .result .bits) (tried .last .1 .1 .1 .1 .0) ≡ t = ap (λ (n : ℕ). take n (tried .last .1 .1 .1 .1 .0)) count ∙ is .1 in
-    let single = gathered-bits R (blockBits (a .octets)) (a .terms) s (has-room-of R (a .octets) (a .terms) s h) in
-    let size : length t ≡ blockBits (a .octets) = gathered-length R (blockBits (a .octets)) (a .terms) s (has-room-of R (a .octets) (a .terms) s h) in
-    (st .pre .2, rw (front, size) (omega arith), λ k. subst (λ (l : List ℕ). getD l k 0 < 2) (sym front) (single k))
-
 same-length-3 : tie.Need-same-length-3
 same-length-3 c = search needs
+
+returns-2 : tie.Need-returns-2
+returns-2 c =
+    let e = c .before .before .before .before .before .before in
+    let a = start e .args in
+    decided-unsent (profile e) (a .octets) (a .terms) (received e) (start e .pre .0)
+    (λ all sum. true≢false (sym sum ∙ ap checked (sym (front e)) ∙ sym (c .before .before .before .detach .ensures .0) ∙ not-true _ (c .if2 .taken)))
+    (now (a .out))
+
+lay-requires : tie.Need-lay-requires
+lay-requires c κs =
+    let e = c .before .before .before .before .before .before .before .before in
+    (omega (arith, short e, c .before .before .before .before .before .detach .kept), omega (arith, start e .pre .3))
 
 same-length-4 : tie.Need-same-length-4
 same-length-4 c = search needs
 
+same-length-5 : tie.Need-same-length-5
+same-length-5 c = search needs
+
+same-length-6 : tie.Need-same-length-6
+same-length-6 c = search needs
+
 returns-3 : tie.Need-returns-3
-returns-3 c = let st = c .before .before .before .before .before .before .before .before .before .before .before .before .before .before .before .before .before .before in
-    let a = st .args in
-    let R = now (a .profile) in
-    let s = now (a .bits) in
-    let h = st .pre .0 in
-    let ok = plan-passed R (a .octets) (h .taken) in
-    let plan = c .before .before .before .before .before .before .before .before .before .before .before .before .before .plan-accepted in
-    let count : plan .result .bits ≡ blockBits (a .octets) = bits-is R (a .octets) (plan .result) (plan .ensures) (h .taken) in
-    let tried = c .before .before .before .before .before .before .before .before .before .before .before .rebuild-bits in
-    let long = tried .kept .1 .1 .1 .1 .0 in
-    let is = rw count at (tried .ensures .sent (not-false _ (c .before .before .before .before .before .before .before .before .if1 .left))) in
-    let t = gathered R (blockBits (a .octets)) (a .terms) s in
-    let front : take (plan .result .bits) (tried .last .1 .1 .1 .1 .0) ≡ t = ap (λ (n : ℕ). take n (tried .last .1 .1 .1 .1 .0)) count ∙ is .1 in
-    let single = gathered-bits R (blockBits (a .octets)) (a .terms) s (has-room-of R (a .octets) (a .terms) s h) in
-    let size : length t ≡ blockBits (a .octets) = gathered-length R (blockBits (a .octets)) (a .terms) s (has-room-of R (a .octets) (a .terms) s h) in
-    let told = c .before .before .before .before .before .before .is-attached .ensures in
-    let sum : checked t ≡ true = ap checked (sym front) ∙ sym told ∙ not-false _ (c .before .before .before .before .before .if2 .left) in
-    decided-found R (a .octets) (a .terms) s h (is .0) sum (now (a .out)) _ (st .pre .2)
-    (c .before .before .pack .ensures ∙ ap (λ (l : List ℕ). sets (now (a .out)) 0 (packed (a .octets) l)) front)
+returns-3 c =
+    let e = c .before .before .before .before .before .before .before .before .before .before .before in
+    let a = start e .args in
+    let detach = c .before .before .before .before .before .before .before .before .detach in
+    let u = take (size e) (room e) in
+    let sum : checked (transported e) ≡ true = ap checked (sym (front e)) ∙ sym (detach .ensures .0) ∙ not-false _ (c .before .before .before .before .before .if2 .left) in
+    let whole : take (a .octets) (detach .last .1 .1 .0) ≡ packed (a .octets) (transported e) =
+    ap (take (a .octets)) (detach .ensures .1) ∙ front-set (now (a .block)) (packed (a .octets) u) (a .octets) (length-packed (a .octets) u) (short e)
+    ∙ ap (packed (a .octets)) (front e) in
+    decided-found (profile e) (a .octets) (a .terms) (received e) (start e .pre .0) (rebuilt e .0) sum (now (a .out)) _
+    (laid-over (detach .last .1 .1 .0) (now (a .out)) _ (a .octets) (omega (arith, short e, detach .kept)) (start e .pre .3) (c .before .before .lay .ensures)
+    ∙ ap (λ (x : List ℕ). x ++ drop (a .octets) (now (a .out))) whole)
 
 pub receive-through-spec : {M : Type 1} → statement M
 receive-through-spec =
@@ -209,14 +162,14 @@ receive-through-spec =
     rebuild-bits-requires
     same-length
     returns
-    slice-reshare-prefix-is-attached
-    slice-aggregate-is-attached
-    is-attached-requires
+    slice-reshare-prefix-detach
+    slice-aggregate-detach
+    detach-requires
     same-length-2
-    returns-2
-    slice-reshare-prefix-pack
-    slice-aggregate-pack
-    pack-requires
     same-length-3
+    returns-2
+    lay-requires
     same-length-4
+    same-length-5
+    same-length-6
     returns-3)

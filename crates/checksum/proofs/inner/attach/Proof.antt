@@ -1,6 +1,9 @@
 -- `checksum::inner::attach` meets its contract.
+use native.Mathlib.Omega.{arith}
 use denote.Ref.{now}
 use borrow.Author.Needs.{needs}
+use Rattle.checksum.specs.Promises.{generator}
+use Rattle.checksum.proofs.Answers.{fits-register}
 use Rattle.checksum.proofs.Attachment.{sets-attached}
 use Rattle.checksum.proofs.inner.attach.Statement.{statement}
 use Rattle.checksum.proofs.inner.attach.Tie as tie
@@ -15,7 +18,9 @@ mul-a : tie.Need-mul-a
 mul-a c = search needs
 
 put-number-requires : tie.Need-put-number-requires
-put-number-requires c κs = search needs
+put-number-requires c κs =
+    let s = c .before .before .before .before .before .before .before .before in
+    (omega (arith, fits-register (s .args .w) (s .pre .0) .most), search needs)
 
 same-length : tie.Need-same-length
 same-length c = search needs
@@ -23,7 +28,7 @@ same-length c = search needs
 returns : tie.Need-returns
 returns c =
     let a = c .before .before .before .before .before .before .before .before .before .before .before .args in
-    cc (sets-attached (a .w) (a .g) (now (a .out)) (now (a .octets)))
+    cc (sets-attached (a .w) (generator (a .w)) (now (a .out)) (now (a .octets)))
 
 pub attach-spec : {M : Type 1} → statement M
 attach-spec =

@@ -1,64 +1,42 @@
--- `checksum::inner::sum_octets` meets its contract. The loop's invariant: the octets left, fed to the register, give what all of them give.
-use mathlib.Core.Path.{_≡_, refl}
-use Prim.Native.Nat.{_-_, _^_, _<_}
-use lib.ListN.{length, drop}
-use lib.Pow.{pow-pos}
+-- `checksum::inner::sum_octets` meets its contract: each of the three widths has its table.
+use mathlib.Core.Path.{refl}
 use denote.Ref.{now}
 use borrow.Author.Needs.{needs}
 use Rattle.bits.specs.Bits.{unpacked}
-use Rattle.bits.proofs.Octets.{unpacked-bits}
-use Rattle.checksum.specs.steps.Register.{fed}
-use Rattle.checksum.proofs.Fold.{checksum-fed, fed-lt, octet-turn, octet-end}
+use Rattle.checksum.specs.Crc.{gen24A, gen16, gen8}
+use Rattle.checksum.specs.Promises.{generator}
+use Rattle.checksum.proofs.Answers.{last-width, summed-with}
 use Rattle.checksum.proofs.inner.sum_octets.Statement.{statement}
 use Rattle.checksum.proofs.inner.sum_octets.Tie as tie
 
-abbrev Inv-loop : tie.InvT-loop
-Inv-loop octets w g r₀ i₀ r i = (r < 2 ^ w) × (fed w g r (unpacked (drop i octets)) ≡ fed w g 0 (unpacked octets))
+sum24a-requires : tie.Need-sum24a-requires
+sum24a-requires c κs = search needs
 
-abbrev μ-loop : tie.MeasureT-loop
-μ-loop octets w g r₀ i₀ r i = length octets - i
-
-loop-holds : tie.Need-loop-holds Inv-loop μ-loop
-loop-holds c = (pow-pos _, refl)
-
-shared-slice-read-octet : tie.Need-shared-slice-read-octet Inv-loop μ-loop
-shared-slice-read-octet c = search needs
-
-octet-requires : tie.Need-octet-requires Inv-loop μ-loop
-octet-requires c κs = search needs
-
-add-i : tie.Need-add-i Inv-loop μ-loop
-add-i c = search needs
-
-loop-less : tie.Need-loop-less Inv-loop μ-loop
-loop-less c = search needs
-
-loop-again : tie.Need-loop-again Inv-loop μ-loop
-loop-again c =
-    let a = c .before .before .before .before .before .args in
-    let p = c .before .before .before .before .before .pre in
-    let l = c .before .before .before .loop in
-    let turn = octet-turn (a .w) (a .g) (l .r) (l .i) (now (a .octets)) (search needs) in
-    (rw (c .octet .ensures) (fed-lt (a .w) (a .g) (l .r) _ (p .below) (l .inv .0)), cc turn)
-
-returns : tie.Need-returns Inv-loop μ-loop
+returns : tie.Need-returns
+unfolding generator
 returns c =
     let a = c .before .before .before .args in
-    let p = c .before .before .before .pre in
-    let l = c .before .loop in
-    let s = now (a .octets) in
-    cc (octet-end (a .w) (a .g) (l .r) (l .i) s (search needs), checksum-fed (a .w) (a .g) (p .some) (unpacked s) (unpacked-bits s))
+    summed-with (a .w) 24 gen24A (c .sum24a .result) (unpacked (now (a .octets))) (c .before .if1 .taken) refl (c .sum24a .ensures)
+
+sum16-requires : tie.Need-sum16-requires
+sum16-requires c κs = search needs
+
+returns-2 : tie.Need-returns-2
+unfolding generator
+returns-2 c =
+    let a = c .before .before .before .before .args in
+    summed-with (a .w) 16 gen16 (c .sum16 .result) (unpacked (now (a .octets))) (c .before .if2 .taken) refl (c .sum16 .ensures)
+
+sum8-requires : tie.Need-sum8-requires
+sum8-requires c κs = search needs
+
+returns-3 : tie.Need-returns-3
+unfolding generator
+returns-3 c =
+    let s = c .before .before .before .before in
+    let is = last-width (s .args .w) (s .pre) (c .before .before .if1 .left) (c .before .if2 .left) in
+    summed-with (s .args .w) 8 gen8 (c .sum8 .result) (unpacked (now (s .args .octets))) is refl (c .sum8 .ensures)
 
 pub sum-octets-spec : {M : Type 1} → statement M
 sum-octets-spec =
-    tie.close
-    (tie.spec
-    Inv-loop
-    μ-loop
-    loop-holds
-    shared-slice-read-octet
-    octet-requires
-    add-i
-    loop-less
-    loop-again
-    returns)
+    tie.close (tie.spec sum24a-requires returns sum16-requires returns-2 sum8-requires returns-3)

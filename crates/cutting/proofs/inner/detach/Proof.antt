@@ -1,0 +1,60 @@
+-- `cutting::inner::detach` meets its contract.
+use mathlib.Core.Path.{_≡_, sym, ap, _∙_}
+use Prim.Native.Nat.{ℕ, _≤_}
+use native.Mathlib.Omega.{arith}
+use lib.ListN.{length, take}
+use lib.Seq.{length-take-le}
+use denote.Ref.{now}
+use borrow.Author.Needs.{needs}
+use Rattle.bits.specs.Bits.{unpacked, packed}
+use Rattle.bits.proofs.Octets.{length-packed}
+use Rattle.checksum.specs.steps.Testing.{checks}
+use Rattle.cutting.specs.Plan.{blockBits}
+use Rattle.cutting.specs.steps.Plans.{checked}
+use Rattle.cutting.proofs.Transported.{width-24, own-24, front-set, unpacked-before}
+use Rattle.cutting.proofs.inner.detach.Statement.{statement}
+use Rattle.cutting.proofs.inner.detach.Tie as tie
+
+pack-requires : tie.Need-pack-requires
+unfolding blockBits
+pack-requires c κs = search needs
+
+slice-reshare-prefix-is-attached : tie.Need-slice-reshare-prefix-is-attached
+slice-reshare-prefix-is-attached c = search needs
+
+slice-aggregate-is-attached : tie.Need-slice-aggregate-is-attached
+slice-aggregate-is-attached c =
+    let a = c .before .before .before .before .before .before .before .args in
+    sym (length-take-le (a .octets) (c .before .before .before .pack .last .1 .0) (search needs))
+
+is-attached-requires : tie.Need-is-attached-requires
+unfolding blockBits
+is-attached-requires c κs =
+    let st = c .before .before .before .before .before .before .before in
+    let a = st .args in
+    let u = now (a .bits) in
+    let pack = c .before .before .before .pack in
+    let front : take (a .octets) (pack .last .1 .0) ≡ packed (a .octets) u =
+    ap (take (a .octets)) (pack .ensures) ∙ front-set (now (a .block)) (packed (a .octets) u) (a .octets) (length-packed (a .octets) u) (st .pre .2) in
+    let all : 24 ≤ length u = omega (arith, st .pre .1) in
+    (width-24, all, st .pre .0, ap unpacked front ∙ unpacked-before (a .octets) u (st .pre .1) (st .pre .0))
+
+same-length : tie.Need-same-length
+same-length c = search needs
+
+returns : tie.Need-returns
+unfolding checked
+returns c =
+    let a = c .before .before .before .before .before .before .before .before .args in
+    (c .is-attached .ensures ∙ ap (λ (g : ℕ). checks 24 g (now (a .bits))) own-24, c .before .before .before .before .pack .ensures)
+
+pub detach-spec : {M : Type 1} → statement M
+detach-spec =
+    tie.close
+    (tie.spec
+    pack-requires
+    slice-reshare-prefix-is-attached
+    slice-aggregate-is-attached
+    is-attached-requires
+    same-length
+    returns)
