@@ -8,11 +8,11 @@ use native.Mathlib.Omega.{arith}
 use lib.Dec.{T}
 use lib.ListN.{length, getD}
 
-both-first : (a b : Bool) → T (a && b) → T a
+pub both-first : (a b : Bool) → T (a && b) → T a
 both-first true b t = tt
 both-first false b t = t
 
-both-second : (a b : Bool) → T (a && b) → T b
+pub both-second : (a b : Bool) → T (a && b) → T b
 both-second true b t = t
 both-second false b t = absurd t
 

@@ -1,14 +1,30 @@
-// The checksum's register, stepped a bit at a time by shifts and masks.
+// The checksum's register of w bits, by shifts and masks.
 ghost use mathlib.Core.Path.{_≡_};
-ghost use Prim.Native.Nat.{_^_, _<_};
+ghost use Prim.Native.Nat.{_-_, _/_, _%_, _^_, _≤_, _<_};
 ghost use Rattle.checksum.specs.steps.Register.{Generator, stepped};
 
-// One bit into the register of w bits.
+// The w low bits of x.
+pub fn cut(x: u32, w: u32) -> u32
+    requires { ⌜ w < 32 ⌝ }
+    ensures { λ r. ⌜ r ≡ x % 2 ^ w ⌝ }
+{
+    x & ((1u32 << w) - 1)
+}
+
+// The register's highest octet.
+pub fn top_octet(reg: u32, w: u32) -> u32
+    requires { ⌜ (8 ≤ w) × (w ≤ 32) × (reg < 2 ^ w) ⌝ }
+    ensures { λ r. ⌜ (r ≡ reg / 2 ^ (w - 8)) × (r < 256) ⌝ }
+{
+    reg >> (w - 8)
+}
+
+// One bit into the register.
 pub fn step(reg: u32, bit: u32, w: u32, g: u32) -> u32
     requires { ⌜ Generator w g × (reg < 2 ^ w) × (bit < 2) ⌝ }
     ensures { λ r. ⌜ r ≡ stepped w g reg bit ⌝ }
 {
     let x = (reg << 1) ^ (bit << w);
-    let low = x & ((1u32 << w) - 1);
+    let low = cut(x, w);
     if x >> w == 0 { low } else { low ^ g }
 }

@@ -1,4 +1,5 @@
 // Checksums of packed octets, an octet at a time: a table has what each octet leaves of an empty register, and one way serves every width.
+use crate::register;
 ghost use mathlib.Core.Path.{_≡_};
 ghost use Prim.Native.Nat.{_^_, _<_};
 ghost use Rattle.bits.specs.Bits.{digits, unpacked};
@@ -11,8 +12,8 @@ fn octet_by(reg: u32, x: u8, w: u32, left: &[u32]) -> u32
     requires { ⌜ Left w (now left) × (reg < 2 ^ w) ⌝ }
     ensures { λ r. ⌜ r ≡ fed w (generatorOf (now (left .entry))) reg (digits 8 x) ⌝ }
 {
-    let i = ((reg >> (w - 8)) ^ (x as u32)) as usize;
-    ((reg << 8) & ((1u32 << w) - 1)) ^ left[i]
+    let i = (register::top_octet(reg, w) ^ (x as u32)) as usize;
+    register::cut(reg << 8, w) ^ left[i]
 }
 
 fn sum_by(octets: &[u8], w: u32, left: &[u32]) -> u32

@@ -1,6 +1,6 @@
 -- The transport bits of a block, a plan that goes with them, and the block from its transport bits.
 use mathlib.Core.Path.{_≡_, refl, sym, ap, _∙_}
-use mathlib.Core.Bool.{true, false}
+use mathlib.Core.Bool.{true}
 use mathlib.Core.List.{List}
 use Prim.Native.Nat.{ℕ, _+_, _-_, _*_, _≤_}
 use native.Mathlib.Omega.{arith}
@@ -12,7 +12,7 @@ use Rattle.bits.proofs.Lists.{bits-append, bits-take}
 use Rattle.bits.proofs.Digits.{length-digits, digits-bits}
 use Rattle.bits.proofs.Octets.{length-unpacked, unpacked-bits, packed-front, packed-unpacked, unpacked-packed}
 use Rattle.checksum.specs.Crc.{attached, checksum, gen24A}
-use Rattle.checksum.specs.Promises.{generator, otherWidth}
+use Rattle.checksum.specs.Promises.{generator}
 use Rattle.checksum.specs.steps.Register.{Generator}
 use Rattle.checksum.proofs.Attachment.{checks-sound, checks-complete}
 use Rattle.cutting.specs.Plan.{blockBits}
@@ -25,11 +25,7 @@ use Rattle.cutting.proofs.PlanFields.{bits-is}
 pub generator-24 : Generator 24 gen24A
 generator-24 = record { some = lit< tt; most = lit≤ tt; below = lit< tt }
 
--- 24 is a width, and its generator is the one of step 1
-pub width-24 : otherWidth 24 ≡ false
-unfolding otherWidth
-width-24 = refl
-
+-- the generator of step 1 is that of its width
 pub own-24 : generator 24 ≡ gen24A
 unfolding generator
 own-24 = refl

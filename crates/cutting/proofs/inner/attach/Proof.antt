@@ -1,14 +1,16 @@
 -- `cutting::inner::attach` meets its contract.
+use mathlib.Core.Path.{refl}
 use borrow.Author.Needs.{needs}
+use Rattle.checksum.specs.Promises.{otherWidth}
 use Rattle.cutting.specs.Plan.{blockBits}
 use Rattle.cutting.specs.Transport.{transport}
-use Rattle.cutting.proofs.Transported.{width-24, own-24}
+use Rattle.cutting.proofs.Transported.{own-24}
 use Rattle.cutting.proofs.inner.attach.Statement.{statement}
 use Rattle.cutting.proofs.inner.attach.Tie as tie
 
 attach-requires : tie.Need-attach-requires
-unfolding blockBits
-attach-requires c κs = (width-24, search needs)
+unfolding blockBits otherWidth
+attach-requires c κs = (refl, search needs)
 
 same-length : tie.Need-same-length
 same-length c = search needs

@@ -1,17 +1,18 @@
 -- `cutting::inner::detach` meets its contract.
-use mathlib.Core.Path.{_≡_, sym, ap, _∙_}
-use Prim.Native.Nat.{ℕ, _≤_}
+use mathlib.Core.Path.{_≡_, refl, sym, ap, _∙_}
+use Prim.Native.Nat.{ℕ}
 use native.Mathlib.Omega.{arith}
-use lib.ListN.{length, take}
+use lib.ListN.{take}
 use lib.Seq.{length-take-le}
 use denote.Ref.{now}
 use borrow.Author.Needs.{needs}
 use Rattle.bits.specs.Bits.{unpacked, packed}
 use Rattle.bits.proofs.Octets.{length-packed}
+use Rattle.checksum.specs.Promises.{otherWidth}
 use Rattle.checksum.specs.steps.Testing.{checks}
 use Rattle.cutting.specs.Plan.{blockBits}
 use Rattle.cutting.specs.steps.Plans.{checked}
-use Rattle.cutting.proofs.Transported.{width-24, own-24, front-set, unpacked-before}
+use Rattle.cutting.proofs.Transported.{own-24, front-set, unpacked-before}
 use Rattle.cutting.proofs.inner.detach.Statement.{statement}
 use Rattle.cutting.proofs.inner.detach.Tie as tie
 
@@ -28,7 +29,7 @@ slice-aggregate-is-attached c =
     sym (length-take-le (a .octets) (c .before .before .before .pack .last .1 .0) (search needs))
 
 is-attached-requires : tie.Need-is-attached-requires
-unfolding blockBits
+unfolding blockBits otherWidth
 is-attached-requires c κs =
     let st = c .before .before .before .before .before .before .before in
     let a = st .args in
@@ -36,8 +37,7 @@ is-attached-requires c κs =
     let pack = c .before .before .before .pack in
     let front : take (a .octets) (pack .last .1 .0) ≡ packed (a .octets) u =
     ap (take (a .octets)) (pack .ensures) ∙ front-set (now (a .block)) (packed (a .octets) u) (a .octets) (length-packed (a .octets) u) (st .pre .2) in
-    let all : 24 ≤ length u = omega (arith, st .pre .1) in
-    (width-24, all, st .pre .0, ap unpacked front ∙ unpacked-before (a .octets) u (st .pre .1) (st .pre .0))
+    (refl, omega (arith, st .pre .1), st .pre .0, ap unpacked front ∙ unpacked-before (a .octets) u (st .pre .1) (st .pre .0))
 
 same-length : tie.Need-same-length
 same-length c = search needs
