@@ -36,7 +36,7 @@ can_count() { [ -z "$(missing)" ]; }
 
 not_counted() { echo "x86-64 instructions are not counted; Debian packages that are needed: $(missing | tr '\n' ' ')"; }
 
-need_counting() { can_count || fail "instructions cannot be counted; Debian packages that are needed: $(missing | tr '\n' ' ')"; }
+need_counting() { can_count || fail "$(not_counted)"; }
 
 # counted MARKS PROGRAM WORDS..: runs an x86-64 program and writes the counts to MARKS. The processor is an old one: on others
 # memset uses `rep stosb`, of which each octet counts as an instruction.

@@ -29,7 +29,7 @@ function is_in_range(number) {
 function write_bits(width, packed,    i) {
     printf "crc %s ", width >bits
     for (i = 1; i < length(packed); i += 2) printf "%s", eight[substr(packed, i, 2)] >bits
-    print packed == "" ? "-" : "" >bits
+    print (packed == "" ? "-" : "") >bits
 }
 
 {

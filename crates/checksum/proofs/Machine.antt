@@ -1,4 +1,4 @@
--- What the code's shifts and masks compute at 32 bits, over any width up to 24.
+-- What the code's shifts and masks compute at 32 bits, over any width that has room there.
 use mathlib.Core.Path.{_≡_, sym, ap, ap₂, _∙_, subst}
 use mathlib.Core.List.{List}
 use Prim.Native.Nat.{ℕ, _+_, _-_, _*_, _/_, _%_, _^_, _≤_, _<_}
@@ -55,13 +55,13 @@ module _ (w g reg bit : ℕ) (hw : w ≤ 24) (hr : reg < 2 ^ w) (hb : bit < 2) (
       let h : raw w reg bit / 2 ^ w < 2 = shr-lt 1 w raw-lt in
       ap (bitXor low) (sym (one-mul g)) ∙ with-top 1 (omega arith)
 
--- ---- one look at a table: t is what stands there, `up` the register without its top octet
+-- ---- one look at a table: i is the place, `up` the register moved up without its top octet
 
 pub one-look : (w reg x : ℕ) (left : List ℕ) → Left w left → reg < 2 ^ w → (i up : ℕ) → i ≡ bitXor (reg / 2 ^ (w - 8)) x → i < 256
     → up ≡ (reg * 2 ^ 8) % 2 ^ 32 % 2 ^ w → bitXor up (getD left i 0) ≡ fed w (generatorOf left) reg (digits 8 x)
 one-look w reg x left h hr i up place inside moved =
     let m = w - 8 in
-    let below : m + 8 ≡ w = omega (arith, h .octet) in
+    let below : m + 8 ≡ w = omega (arith, h .wide) in
     let rest : up ≡ reg % 2 ^ m * 2 ^ 8 =
     moved ∙ ap (λ (y : ℕ). y % 2 ^ w) (shl-exact w 8 32 hr (omega (arith, h .fits .most))) ∙ ap (λ (n : ℕ). (reg * 2 ^ 8) % 2 ^ n) (sym below)
     ∙ mod-pow-add (reg * 2 ^ 8) m 8

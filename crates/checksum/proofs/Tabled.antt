@@ -5,39 +5,40 @@ use mathlib.Core.List.{List}
 use Prim.Native.Nat.{ℕ, _^_, _≤_, _<_}
 use native.Mathlib.Omega.{arith}
 use lib.Dec.{T, ltb, leb, eqb, ltb→lt, leb→le, eqb→eq}
+use lib.Ieee.Fits.{and-l, and-r}
 use lib.ListN.{length, getD}
 use Rattle.bits.specs.Bits.{digits}
-use Rattle.bits.proofs.Tables.{everyEntry, both-first, both-second, at-entry}
+use Rattle.bits.proofs.Tables.{everyEntry, at-entry}
 use Rattle.checksum.specs.steps.Register.{fed}
 use Rattle.checksum.specs.steps.Table.{Left, generatorOf}
 
-abbrev pub rightEntry : ℕ → ℕ → ℕ → ℕ → Bool
-rightEntry w g k x = eqb x (fed w g 0 (digits 8 k))
+abbrev pub entryHolds : ℕ → ℕ → ℕ → ℕ → Bool
+entryHolds w g k x = eqb x (fed w g 0 (digits 8 k))
 
-abbrev pub rightWidth : ℕ → ℕ → Bool
-rightWidth w g = leb 8 w && leb w 24 && ltb g (2 ^ w)
+abbrev pub widthHolds : ℕ → ℕ → Bool
+widthHolds w g = leb 8 w && leb w 24 && ltb g (2 ^ w)
 
-abbrev pub rightTable : ℕ → List ℕ → Bool
-rightTable w t = rightWidth w (generatorOf t) && eqb (length t) 256 && everyEntry (rightEntry w (generatorOf t)) 0 t
+abbrev pub tableHolds : ℕ → List ℕ → Bool
+tableHolds w t = widthHolds w (generatorOf t) && eqb (length t) 256 && everyEntry (entryHolds w (generatorOf t)) 0 t
 
-pub left-by-test : (w : ℕ) (t : List ℕ) → T (rightTable w t) → Left w t
-left-by-test w t right =
+pub left-by-test : (w : ℕ) (t : List ℕ) → T (tableHolds w t) → Left w t
+left-by-test w t test =
     let g = generatorOf t in
-    let every = everyEntry (rightEntry w g) 0 t in
-    let sized = both-first (rightWidth w g && eqb (length t) 256) every right in
-    let width = both-first (rightWidth w g) (eqb (length t) 256) sized in
-    let ends = both-first (leb 8 w && leb w 24) (ltb g (2 ^ w)) width in
-    let least : 8 ≤ w = leb→le 8 w (both-first (leb 8 w) (leb w 24) ends) in
-    let size : length t ≡ 256 = eqb→eq (length t) 256 (both-second (rightWidth w g) (eqb (length t) 256) sized) in
+    let every = everyEntry (entryHolds w g) 0 t in
+    let sized = and-l (widthHolds w g && eqb (length t) 256) every test in
+    let width = and-l (widthHolds w g) (eqb (length t) 256) sized in
+    let ends = and-l (leb 8 w && leb w 24) (ltb g (2 ^ w)) width in
+    let least : 8 ≤ w = leb→le 8 w (and-l (leb 8 w) (leb w 24) ends) in
+    let size : length t ≡ 256 = eqb→eq (length t) 256 (and-r (widthHolds w g) (eqb (length t) 256) sized) in
     record {
       fits = record {
         some = omega arith;
-        most = leb→le w 24 (both-second (leb 8 w) (leb w 24) ends);
-        below = ltb→lt g (2 ^ w) (both-second (leb 8 w && leb w 24) (ltb g (2 ^ w)) width);
+        most = leb→le w 24 (and-r (leb 8 w) (leb w 24) ends);
+        below = ltb→lt g (2 ^ w) (and-r (leb 8 w && leb w 24) (ltb g (2 ^ w)) width);
       };
-      octet = least;
+      wide = least;
       size = size;
       entry = λ k h.
           eqb→eq (getD t k 0) (fed w g 0 (digits 8 k))
-          (at-entry (rightEntry w g) t (both-second (rightWidth w g && eqb (length t) 256) every right) k (subst (λ (n : ℕ). k < n) (sym size) h));
+          (at-entry (entryHolds w g) t (and-r (widthHolds w g && eqb (length t) 256) every test) k (subst (λ (n : ℕ). k < n) (sym size) h));
     }

@@ -1,4 +1,4 @@
-// Checksums where the width and the generator are known to go together.
+// Checksums where the width was tested: of octets by its table, of single bits by any generator that it has room for.
 use crate::register;
 use crate::table;
 ghost use mathlib.Core.Path.{_≡_};

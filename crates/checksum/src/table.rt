@@ -53,6 +53,7 @@ pub fn sum8(octets: &[u8]) -> u32
     sum_by(octets, 8, &left)
 }
 
+// What each octet leaves, from 0 on: of 24 bits, of 16 and of 8.
 const LEFT24A: [u32; 256] = [
     0x000000,
     0x864CFB,

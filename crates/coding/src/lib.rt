@@ -64,8 +64,8 @@ pub fn send(profile: &[u8], block: &[u8], terms: Terms, g: CodedBits, out: &mut 
     send_accepted(profile, block, terms, g, out)
 }
 
-// Decides on bits that no number before 14 refuses; `room` is room for the transport bits, `block` for the block. Nothing is written before
-// everything is tested.
+// Decides on bits that no number before 14 refuses; `room` is room for the transport bits, `block` for the block. Nothing goes into the
+// output before everything is tested.
 fn receive_through(
     profile: &[u8],
     octets: usize,

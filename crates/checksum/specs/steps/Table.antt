@@ -13,6 +13,6 @@ generatorOf t = getD t 1 0
 -- entry k is what the octet k leaves of an empty register of w bits
 pub record Left (w : ℕ) (t : List ℕ) : Type 0 where
   pub fits : Generator w (generatorOf t)
-  pub octet : 8 ≤ w
+  pub wide : 8 ≤ w
   pub size : length t ≡ 256
   pub entry : (k : ℕ) → k < 256 → getD t k 0 ≡ fed w (generatorOf t) 0 (digits 8 k)

@@ -35,7 +35,6 @@ profile c = now (start c .args .profile)
 abbrev received : tie.Else1 → List ℕ
 received c = now (start c .args .bits)
 
--- the transport bits are the front of the room
 abbrev transported : tie.Else1 → List ℕ
 transported c = gathered (profile c) (blockBits (start c .args .octets)) (start c .args .terms) (received c)
 
@@ -59,6 +58,7 @@ rebuilt : (c : tie.Else1)
     × (take (blockBits (start c .args .octets)) (room c) ≡ transported c)
 rebuilt c = rw (size-is c) at (c .before .before .before .rebuild-bits .ensures .sent (not-false _ (c .if1 .left)))
 
+-- the transport bits are the front of the room
 front : (c : tie.Else1) → take (size c) (room c) ≡ transported c
 front c = ap (λ (n : ℕ). take n (room c)) (size-is c) ∙ rebuilt c .1
 
@@ -72,7 +72,7 @@ long c =
     let a = start c .args in
     gathered-length (profile c) (blockBits (a .octets)) (a .terms) (received c) (has-room-of (profile c) (a .octets) (a .terms) (received c) (start c .pre .0))
 
--- the block has room
+-- there is room for the block
 short : (c : tie.Else1) → start c .args .octets ≤ length (now (start c .args .block))
 short c = omega (arith, plan-passed (profile c) (start c .args .octets) (start c .pre .0 .taken) .2, start c .pre .2)
 
@@ -109,6 +109,7 @@ detach-requires c κs =
     let e = c .before .before in (
       subst AreBits (sym (front e)) (single e),
       ap length (front e) ∙ long e,
+      -- of the output's room too: who packs into the output is to be refused for what is written, and not here
       omega (arith, short e, start e .pre .3),
     )
 

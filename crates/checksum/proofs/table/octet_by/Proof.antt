@@ -15,7 +15,7 @@ inside c = xor-lt 8 (c .top-octet .result) (c .before .before .args .x) (c .top-
 top-octet-requires : tie.Need-top-octet-requires
 top-octet-requires c κs =
     let p = c .before .pre in
-    (p .0 .octet, omega (arith, p .0 .fits .most), p .1)
+    (p .0 .wide, omega (arith, p .0 .fits .most), p .1)
 
 cast-i : tie.Need-cast-i
 cast-i c = omega (arith, inside c)
