@@ -10,7 +10,7 @@ use lib.Seq.{sets, sets-eq, take-at, length-take-le}
 use Rattle.bits.specs.Bits.{AreBits, AreOctets, digits, unpacked, packed}
 use Rattle.bits.proofs.Lists.{bits-append, bits-take}
 use Rattle.bits.proofs.Digits.{length-digits, digits-bits}
-use Rattle.bits.proofs.Octets.{length-unpacked, unpacked-bits, packed-front, packed-unpacked, unpacked-packed}
+use Rattle.bits.proofs.Octets.{length-unpacked, length-packed, unpacked-bits, packed-front, packed-unpacked, unpacked-packed}
 use Rattle.checksum.specs.Crc.{attached, checksum, gen24A}
 use Rattle.checksum.specs.Promises.{generator}
 use Rattle.checksum.specs.steps.Register.{Generator}
@@ -45,6 +45,10 @@ pub front-set : (l vs : List ℕ) (n : ℕ) → length vs ≡ n → n ≤ length
 front-set l vs n e h =
     let room : 0 + length vs ≤ length l = omega arith in
     ap (take n) (sets-eq vs l 0 room) ∙ take-at vs (drop (0 + length vs) l) n e
+
+-- octets that were packed over the front of a longer list
+pub packed-over : (l u : List ℕ) (octets : ℕ) → octets ≤ length l → take octets (sets l 0 (packed octets u)) ≡ packed octets u
+packed-over l u octets h = front-set l (packed octets u) octets (length-packed octets u) h
 
 pub ready-transport : (R block : List ℕ) (p : Plan) → planNumber R (length block) ≡ 0 → p ≡ planned R (length block) → Ready R (transport block) p
 ready-transport R block p e plan =

@@ -11,15 +11,14 @@ use borrow.Author.Tests.{not-true, not-false}
 use borrow.Author.Needs.{needs}
 use Rattle.bits.specs.Bits.{AreBits, packed}
 use Rattle.bits.proofs.Laid.{laid-over}
-use Rattle.bits.proofs.Octets.{length-packed}
 use Rattle.cutting.specs.Plan.{blockBits}
 use Rattle.cutting.specs.steps.Plans.{checked}
 use Rattle.cutting.proofs.Plans.{plan-passed}
 use Rattle.cutting.proofs.PlanFields.{bits-is}
-use Rattle.cutting.proofs.Transported.{front-set}
+use Rattle.cutting.proofs.Transported.{packed-over}
 use Rattle.coding.specs.Joining.{radioBits}
 use Rattle.coding.specs.steps.Receiving.{gathered}
-use Rattle.coding.proofs.Gathered.{has-room-of, gathered-length, gathered-bits}
+use Rattle.coding.proofs.Gathered.{HasRoom, has-room-of, gathered-length, gathered-bits}
 use Rattle.coding.proofs.Received.{decided-unsent, decided-found}
 use Rattle.coding.proofs.receive_through.Statement.{statement}
 use Rattle.coding.proofs.receive_through.Tie as tie
@@ -62,15 +61,14 @@ rebuilt c = rw (size-is c) at (c .before .before .before .rebuild-bits .ensures 
 front : (c : tie.Else1) → take (size c) (room c) ≡ transported c
 front c = ap (λ (n : ℕ). take n (room c)) (size-is c) ∙ rebuilt c .1
 
+has-room : (c : tie.Else1) → HasRoom (profile c) (blockBits (start c .args .octets)) (start c .args .terms) (received c)
+has-room c = has-room-of (profile c) (start c .args .octets) (start c .args .terms) (received c) (start c .pre .0)
+
 single : (c : tie.Else1) → AreBits (transported c)
-single c =
-    let a = start c .args in
-    gathered-bits (profile c) (blockBits (a .octets)) (a .terms) (received c) (has-room-of (profile c) (a .octets) (a .terms) (received c) (start c .pre .0))
+single c = gathered-bits (profile c) (blockBits (start c .args .octets)) (start c .args .terms) (received c) (has-room c)
 
 long : (c : tie.Else1) → length (transported c) ≡ blockBits (start c .args .octets)
-long c =
-    let a = start c .args in
-    gathered-length (profile c) (blockBits (a .octets)) (a .terms) (received c) (has-room-of (profile c) (a .octets) (a .terms) (received c) (start c .pre .0))
+long c = gathered-length (profile c) (blockBits (start c .args .octets)) (start c .args .terms) (received c) (has-room c)
 
 -- there is room for the block
 short : (c : tie.Else1) → start c .args .octets ≤ length (now (start c .args .block))
@@ -149,7 +147,7 @@ returns-3 c =
     let u = take (size e) (room e) in
     let sum : checked (transported e) ≡ true = ap checked (sym (front e)) ∙ sym (detach .ensures .0) ∙ not-false _ (c .before .before .before .before .before .if2 .left) in
     let whole : take (a .octets) (detach .last .1 .1 .0) ≡ packed (a .octets) (transported e) =
-    ap (take (a .octets)) (detach .ensures .1) ∙ front-set (now (a .block)) (packed (a .octets) u) (a .octets) (length-packed (a .octets) u) (short e)
+    ap (take (a .octets)) (detach .ensures .1) ∙ packed-over (now (a .block)) u (a .octets) (short e)
     ∙ ap (packed (a .octets)) (front e) in
     decided-found (profile e) (a .octets) (a .terms) (received e) (start e .pre .0) (rebuilt e .0) sum (now (a .out)) _
     (laid-over (detach .last .1 .1 .0) (now (a .out)) _ (a .octets) (omega (arith, short e, detach .kept)) (start e .pre .3) (c .before .before .lay .ensures)

@@ -7,12 +7,11 @@ use lib.Seq.{length-take-le}
 use denote.Ref.{now}
 use borrow.Author.Needs.{needs}
 use Rattle.bits.specs.Bits.{unpacked, packed}
-use Rattle.bits.proofs.Octets.{length-packed}
 use Rattle.checksum.specs.Promises.{otherWidth}
 use Rattle.checksum.specs.steps.Testing.{checks}
 use Rattle.cutting.specs.Plan.{blockBits}
 use Rattle.cutting.specs.steps.Plans.{checked}
-use Rattle.cutting.proofs.Transported.{own-24, front-set, unpacked-before}
+use Rattle.cutting.proofs.Transported.{own-24, packed-over, unpacked-before}
 use Rattle.cutting.proofs.inner.detach.Statement.{statement}
 use Rattle.cutting.proofs.inner.detach.Tie as tie
 
@@ -36,7 +35,7 @@ is-attached-requires c κs =
     let u = now (a .bits) in
     let pack = c .before .before .before .pack in
     let front : take (a .octets) (pack .last .1 .0) ≡ packed (a .octets) u =
-    ap (take (a .octets)) (pack .ensures) ∙ front-set (now (a .block)) (packed (a .octets) u) (a .octets) (length-packed (a .octets) u) (st .pre .2) in
+    ap (take (a .octets)) (pack .ensures) ∙ packed-over (now (a .block)) u (a .octets) (st .pre .2) in
     (refl, omega (arith, st .pre .1), st .pre .0, ap unpacked front ∙ unpacked-before (a .octets) u (st .pre .1) (st .pre .0))
 
 same-length : tie.Need-same-length
