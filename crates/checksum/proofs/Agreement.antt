@@ -8,12 +8,12 @@ use Rattle.checksum.specs.declared.Sum.{Sum}
 made : ℕ → ℕ → Sum
 made n v = record { number = n; value = v }
 
-same : (a b : Sum) → a .number ≡ b .number → a .value ≡ b .value → a ≡ b
+pub same-sum : (a b : Sum) → a .number ≡ b .number → a .value ≡ b .value → a ≡ b
 unfolding made
-same a b p q = ap₂ made p q
+same-sum a b p q = ap₂ made p q
 
 pub of-bits-agree : {w : ℕ} {bits : List ℕ} {r r' : Sum} → OfBits w bits r → OfBits w bits r' → r ≡ r'
-of-bits-agree {r = r} {r' = r'} a b = same r r' (a .number ∙ sym (b .number)) (a .value ∙ sym (b .value))
+of-bits-agree {r = r} {r' = r'} a b = same-sum r r' (a .number ∙ sym (b .number)) (a .value ∙ sym (b .value))
 
 pub of-octets-agree : {w : ℕ} {octets : List ℕ} {r r' : Sum} → OfOctets w octets r → OfOctets w octets r' → r ≡ r'
-of-octets-agree {r = r} {r' = r'} a b = same r r' (a .number ∙ sym (b .number)) (a .value ∙ sym (b .value))
+of-octets-agree {r = r} {r' = r'} a b = same-sum r r' (a .number ∙ sym (b .number)) (a .value ∙ sym (b .value))

@@ -11,11 +11,10 @@ use lib.Arith.{digits-div, digits-mod}
 use lib.Bits.{bitXor, xor-self, xor-zero-r}
 use lib.ListN.{length, take, drop, replicate, length-append, length-drop, take-append-drop}
 use lib.Pow.{pow-pos}
-use lib.Seq.{sets, take-append-seam, drop-append-seam}
-use Rattle.bits.specs.Bits.{AreBits, digits, valueOf, unpacked}
-use Rattle.bits.proofs.Lists.{bits-drop, sets-append}
+use lib.Seq.{take-append-seam, drop-append-seam}
+use Rattle.bits.specs.Bits.{AreBits, digits, valueOf}
+use Rattle.bits.proofs.Lists.{bits-drop}
 use Rattle.bits.proofs.Digits.{length-digits, digits-bits, digit-over, bit-times, value-digits, digits-value}
-use Rattle.bits.proofs.Octets.{length-unpacked}
 use Rattle.bits.proofs.Xor.{xor-zero}
 use Rattle.checksum.specs.Crc.{reduce, divideOn, remainder, checksum, attached}
 use Rattle.checksum.specs.steps.Testing.{checks}
@@ -87,14 +86,6 @@ module _ (w g : ℕ) where
       let q : checksum w g (take n b) ≡ valueOf (drop n b) = eqb-true (checksum w g (take n b)) (valueOf (drop n b)) e in
       sym (take-append-drop n b)
       ∙ ap (λ (z : List ℕ). take n b ++ z) (sym (digits-value (drop n b) (bits-drop n b h)) ∙ ap₂ digits d (sym q))
-
-  -- writing the bits of octets and then the checksum's is writing them attached
-  pub sets-attached : (out s : List ℕ)
-      → sets out 0 (attached w g (unpacked s)) ≡ sets (sets out 0 (unpacked s)) (8 * length s) (digits w (checksum w g (unpacked s)))
-  unfolding attached
-  sets-attached out s =
-      let p = digits w (checksum w g (unpacked s)) in
-      sets-append out 0 (unpacked s) p ∙ ap (λ (n : ℕ). sets (sets out 0 (unpacked s)) n p) (zero-add (length (unpacked s)) ∙ length-unpacked s)
 
   module _ (below : g < 2 ^ w) where
     pub checksum-lt : (a : List ℕ) → checksum w g a < 2 ^ w

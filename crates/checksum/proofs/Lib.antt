@@ -4,5 +4,6 @@ pub mod AtOnce
 pub mod Tabled
 pub mod Machine
 pub mod Attachment
+pub mod Masked
 pub mod Answers
 pub mod Agreement

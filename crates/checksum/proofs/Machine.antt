@@ -1,4 +1,4 @@
--- What the code's shifts and masks compute at 32 bits, over any width that has room there.
+-- What the code's shifts compute at 32 bits, over any width that has room there, and what it cuts off a number of any size.
 use mathlib.Core.Path.{_≡_, sym, ap, ap₂, _∙_, subst}
 use mathlib.Core.List.{List}
 use Prim.Native.Nat.{ℕ, _+_, _-_, _*_, _/_, _%_, _^_, _≤_, _<_}
@@ -14,16 +14,17 @@ use Rattle.checksum.specs.steps.Register.{stepped, fed}
 use Rattle.checksum.specs.steps.Table.{Left, generatorOf}
 use Rattle.checksum.proofs.AtOnce.{fed-at-once}
 
--- ---- `x & ((1 << w) - 1)`
+-- ---- `x & ((1 << w) - 1)`, at n bits
 
-one-shifted : (w : ℕ) → w < 32 → (1 * 2 ^ w) % 2 ^ 32 ≡ 2 ^ w
-one-shifted w h = shl-exact 1 w 32 (lit< tt) (omega arith) ∙ one-mul (2 ^ w)
+module _ (n w : ℕ) (h : w < n) where
+  one-shifted : (1 * 2 ^ w) % 2 ^ n ≡ 2 ^ w
+  one-shifted = shl-exact 1 w n (lit< tt) (omega arith) ∙ one-mul (2 ^ w)
 
-pub mask-some : (w : ℕ) → w < 32 → 1 ≤ (1 * 2 ^ w) % 2 ^ 32
-mask-some w h = rw (one-shifted w h) (pow-pos w)
+  pub ones-some : 1 ≤ (1 * 2 ^ w) % 2 ^ n
+  ones-some = rw one-shifted (pow-pos w)
 
-pub masked : (x w : ℕ) → w < 32 → bitAnd x ((1 * 2 ^ w) % 2 ^ 32 - 1) ≡ x % 2 ^ w
-masked x w h = ap (λ (n : ℕ). bitAnd x (n - 1)) (one-shifted w h) ∙ and-mask x w
+  pub low-bits : (x : ℕ) → bitAnd x ((1 * 2 ^ w) % 2 ^ n - 1) ≡ x % 2 ^ w
+  low-bits x = ap (λ (k : ℕ). bitAnd x (k - 1)) one-shifted ∙ and-mask x w
 
 -- ---- one bit
 

@@ -3,13 +3,13 @@ use crate::register;
 use crate::table;
 ghost use mathlib.Core.Path.{_≡_};
 ghost use mathlib.Core.Bool.{false};
-ghost use Prim.Native.Nat.{_+_, _-_, _*_, _≤_};
+ghost use Prim.Native.Nat.{_+_, _-_, _*_, _%_, _^_, _≤_};
 ghost use lib.ListN.{length, take};
 ghost use lib.Seq.{sets};
 ghost use Rattle.bits.specs.Bits.{AreBits, unpacked};
-ghost use Rattle.checksum.specs.Crc.{checksum, attached};
+ghost use Rattle.checksum.specs.Crc.{checksum};
+ghost use Rattle.checksum.specs.Masked.{under, attachedUnder, testsUnder};
 ghost use Rattle.checksum.specs.Promises.{generator, otherWidth};
-ghost use Rattle.checksum.specs.steps.Testing.{checks};
 ghost use Rattle.checksum.specs.steps.Register.{Generator};
 
 // The checksum of packed octets, from the table of its width.
@@ -41,23 +41,38 @@ pub fn sum_bits(bits: &[u8], w: u32, g: u32) -> u32
     r
 }
 
-// Writes the bits of packed octets, and then the bits of their checksum.
-pub fn attach(octets: &[u8], w: u32, out: &mut [u8])
+// The w low bits of a mask: whatever is over the width goes here and nowhere else.
+fn low(mask: u64, w: u32) -> u32
+    requires { ⌜ w ≤ 32 ⌝ }
+    ensures { λ r. ⌜ r ≡ mask % 2 ^ w ⌝ }
+{
+    (mask & ((1u64 << w) - 1)) as u32
+}
+
+// A sum under a mask.
+pub fn under(sum: u32, w: u32, mask: u64) -> u32
+    requires { ⌜ w ≤ 32 ⌝ }
+    ensures { λ r. ⌜ r ≡ under w mask sum ⌝ }
+{
+    sum ^ low(mask, w)
+}
+
+// Writes the bits of packed octets, and then the bits of their checksum under a mask.
+pub fn attach(octets: &[u8], w: u32, mask: u64, out: &mut [u8])
     requires { ⌜ (otherWidth w ≡ false) × (8 * length (now octets) + w ≤ length (now out)) ⌝ }
-    ensures { λ _. ⌜ now (out .exit) ≡ sets (now (out .entry)) 0 (attached w (generator w) (unpacked (now (octets .entry)))) ⌝ }
+    ensures { λ _. ⌜ now (out .exit) ≡ sets (now (out .entry)) 0 (attachedUnder w (generator w) mask (unpacked (now (octets .entry)))) ⌝ }
 {
     bits::inner::unpack(octets, out, 0);
-    let sum = sum_octets(octets, w);
+    let sum = under(sum_octets(octets, w), w, mask);
     let a = 8 * octets.len();
     bits::inner::put_number(out, a, sum, w);
 }
 
-// Whether the last w bits are the checksum of those before them, which `octets` has packed: recomputed, and compared.
-pub fn is_attached(bits: &[u8], octets: &[u8], w: u32) -> bool
+// Whether the last w bits are the checksum under a mask of those before them, which `octets` has packed: recomputed, and compared.
+pub fn is_attached(bits: &[u8], octets: &[u8], w: u32, mask: u64) -> bool
     requires { ⌜ (otherWidth w ≡ false) × (w ≤ length (now bits)) × AreBits (now bits) × (unpacked (now octets) ≡ take (length (now bits) - w) (now bits)) ⌝ }
-    ensures { λ r. ⌜ r ≡ checks w (generator w) (now (bits .entry)) ⌝ }
+    ensures { λ r. ⌜ r ≡ testsUnder w (generator w) mask (now (bits .entry)) ⌝ }
 {
     let a = bits.len() - w as usize;
-    let sum = sum_octets(octets, w);
-    sum == bits::inner::get_number(bits, a, w)
+    under(sum_octets(octets, w), w, mask) == bits::inner::get_number(bits, a, w)
 }

@@ -44,12 +44,12 @@ pub fn plan_accepted(profile: &[u8], octets: usize) -> Plan
     cut::cutting(profile, bits, kmax, blocks)
 }
 
-// Lays the transport bits of a block, its bits and their checksum, in front of `bits`.
+// Lays the transport bits of a block, its bits and their checksum, in front of `bits`. "The data path passes zero" for the mask.
 pub fn attach(block: &[u8], bits: &mut [u8])
     requires { ⌜ (length (now block) ≤ 2048) × (blockBits (length (now block)) ≤ length (now bits)) ⌝ }
     ensures { λ _. ⌜ now (bits .exit) ≡ sets (now (bits .entry)) 0 (transport (now (block .entry))) ⌝ }
 {
-    checksum::inner::attach(block, 24, bits);
+    checksum::inner::attach(block, 24, 0, bits);
 }
 
 // Packs the octets of transport bits in front of `block`, and says whether the bits behind theirs are their checksum. Packed first, they are summed
@@ -59,7 +59,7 @@ pub fn detach(bits: &[u8], octets: usize, block: &mut [u8]) -> bool
     ensures { λ r. ⌜ (r ≡ checked (now (bits .entry))) × (now (block .exit) ≡ sets (now (block .entry)) 0 (packed octets (now (bits .entry)))) ⌝ }
 {
     bits::inner::pack(bits, block, octets);
-    checksum::inner::is_attached(bits, &block[..octets], 24)
+    checksum::inner::is_attached(bits, &block[..octets], 24, 0)
 }
 
 // Lays a block's own bits in front of the word, and filler behind them.

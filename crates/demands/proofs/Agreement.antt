@@ -9,6 +9,9 @@ use Rattle.bits.specs.declared.count.Terms.{Terms}
 use Rattle.checksum.specs.Promises.{OfBits, OfOctets}
 use Rattle.checksum.specs.declared.Sum.{Sum}
 use Rattle.checksum.proofs.Agreement.{of-bits-agree, of-octets-agree}
+use Rattle.masked.specs.Promises.{SumUnder, Appended, WordTested}
+use Rattle.masked.specs.declared.Tested.{Tested}
+use Rattle.masked.proofs.Agreement.{sum-under-agree, append-agree, test-agree}
 use Rattle.profile.specs.Promises.{judged}
 use Rattle.profile.proofs.Agreement.{judge-agree}
 use Rattle.cutting.specs.Promises.{planned}
@@ -35,6 +38,18 @@ of-bits a b = of-bits-agree a b
 
 pub of-octets : {w : ℕ} {octets : List ℕ} {r r' : Sum} → OfOctets w octets r → OfOctets w octets r' → r ≡ r'
 of-octets a b = of-octets-agree a b
+
+-- ---- masked::sum_under, masked::append, masked::test
+
+pub sum-under : {w m : ℕ} {bits : List ℕ} {r r' : Sum} → SumUnder w m bits r → SumUnder w m bits r' → r ≡ r'
+sum-under a b = sum-under-agree a b
+
+pub append : {w m : ℕ} {bits out : List ℕ} {r r' : Written} {o o' : List ℕ}
+    → Appended w m bits out r o → Appended w m bits out r' o' → (r ≡ r') × (o ≡ o')
+append a b = append-agree a b
+
+pub test : {w m : ℕ} {word : List ℕ} {r r' : Tested} → WordTested w m word r → WordTested w m word r' → r ≡ r'
+test a b = test-agree a b
 
 -- ---- profile::judge, cutting::plan_block
 

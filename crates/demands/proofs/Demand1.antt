@@ -4,7 +4,7 @@
 use mathlib.Core.Path.{_≡_, refl, sym, ap, _∙_}
 use mathlib.Core.Bool.{false}
 use mathlib.Core.List.{List, [], _++_}
-use Prim.Native.Nat.{ℕ, _*_, _/_, _%_}
+use Prim.Native.Nat.{ℕ, _+_, _*_, _/_, _%_}
 use denote.Ref.{RefT, now, ptr}
 use borrow.Author.Tests.{ltb-false}
 use lib.ListN.{length, getD}
@@ -13,8 +13,12 @@ use Rattle.bits.specs.declared.number.Written.{Written}
 use Rattle.bits.specs.declared.count.Terms.{Terms}
 use Rattle.bits.proofs.Answers.{Refusals, when-refused}
 use Rattle.bits.proofs.Listed.{length-list}
-use Rattle.checksum.specs.Promises.{bitsConditions, bitsNumber, OfBits, octetsConditions, octetsNumber, OfOctets}
+use Rattle.checksum.specs.Promises.{generator, bitsConditions, bitsNumber, OfBits, octetsConditions, octetsNumber, OfOctets}
 use Rattle.checksum.specs.declared.Sum.{Sum}
+use Rattle.checksum.specs.Masked.{attachedUnder}
+use Rattle.checksum.proofs.Masked.{length-attached-under}
+use Rattle.masked.specs.Promises.{SumUnder, appendConditions, appendNumber, Appended, WordTested}
+use Rattle.masked.specs.declared.Tested.{Tested}
 use Rattle.profile.specs.Record.{kb, rows, columns}
 use Rattle.profile.specs.Promises.{judgeConditions, judged}
 use Rattle.profile.proofs.Shape.{columns-is}
@@ -57,6 +61,14 @@ pub of-octets-number : {w : ℕ} {octets : List ℕ} {r : Sum} → OfOctets w oc
 unfolding octetsNumber Refusals
 of-octets-number {w} a = answers (octetsConditions w) tt (a .number)
 
+pub sum-under-number : {w m : ℕ} {bits : List ℕ} {r : Sum} → SumUnder w m bits r → Answers (r .number) (bitsConditions w bits)
+unfolding bitsNumber Refusals
+sum-under-number {w} {m} {bits} a = answers (bitsConditions w bits) tt (a .number)
+
+pub test-number : {w m : ℕ} {word : List ℕ} {r : Tested} → WordTested w m word r → Answers (r .number) (bitsConditions w word)
+unfolding bitsNumber Refusals
+test-number {w} {m} {word} a = answers (bitsConditions w word) tt (a .number)
+
 pub judge-number : (R : List ℕ) {r : ℕ} → r ≡ judged R → Answers r (judgeConditions R)
 unfolding judged Refusals
 judge-number R a = answers (judgeConditions R) tt a
@@ -76,6 +88,10 @@ least-bits-number {R} {octets} {terms} a = answers (leastConditions R octets ter
 pub lookup-number-number : (private public : List ℕ) (t p : ℕ) {r : ℕ} → r ≡ lookupNumber private public t p → Answers r (lookupConditions private public t p)
 unfolding lookupNumber Refusals
 lookup-number-number private public t p a = answers (lookupConditions private public t p) tt a
+
+append-answers : (w : ℕ) (bits : List ℕ) (room : ℕ) {r : ℕ} → r ≡ appendNumber w bits room → Answers r (appendConditions w bits room)
+unfolding appendNumber Refusals
+append-answers w bits room e = answers (appendConditions w bits room) tt e
 
 code-answers : (R : List ℕ) (z : ℕ) (places : List ℕ) (room : ℕ) {r : ℕ} → r ≡ codeNumber R z places room → Answers r (codeConditions R z places room)
 unfolding codeNumber Refusals
@@ -101,6 +117,12 @@ of-bits-refused {w} {bits} a n = a .value ∙ when-refused (bitsNumber w bits) _
 
 pub of-octets-refused : {w : ℕ} {octets : List ℕ} {r : Sum} → OfOctets w octets r → (r .number ≡ 0 → ⊥) → r .value ≡ 0
 of-octets-refused {w} a n = a .value ∙ when-refused (octetsNumber w) _ 0 (λ z. n (a .number ∙ z))
+
+pub sum-under-refused : {w m : ℕ} {bits : List ℕ} {r : Sum} → SumUnder w m bits r → (r .number ≡ 0 → ⊥) → r .value ≡ 0
+sum-under-refused {w} {m} {bits} a n = a .value ∙ when-refused (bitsNumber w bits) _ 0 (λ z. n (a .number ∙ z))
+
+pub test-refused : {w m : ℕ} {word : List ℕ} {r : Tested} → WordTested w m word r → (r .number ≡ 0 → ⊥) → r .holds ≡ false
+test-refused {w} {m} {word} a n = a .holds ∙ when-refused (bitsNumber w word) _ false (λ z. n (a .number ∙ z))
 
 pub plan-block-refused : (R : List ℕ) (octets : ℕ) {r : Plan} → r ≡ planned R octets → (r .number ≡ 0 → ⊥)
     → (r .bits ≡ 0) × (r .kmax ≡ 0) × (r .blocks ≡ 0) × (r .places ≡ 0) × (r .z ≡ 0) × (r .index ≡ 0)
@@ -128,6 +150,30 @@ lookup-refused {private} {public} {t} {p} a n =
     (a .octets ∙ when-refused number _ [] n, a .place ∙ when-refused number _ (ptr public) n)
 
 -- ---- the calls that write: their numbers, what they leave as it was, and that it decides nothing
+
+-- masked::append
+append-fits : (w m : ℕ) (bits : List ℕ) → outputs.Fitting (appendNumber w bits) (length bits + w) (attachedUnder w (generator w) m bits)
+unfolding NoneHolds
+append-fits w m bits =
+    record {
+      size = λ room e. length-attached-under w (generator w) m bits;
+      room = λ room e. let h = append-answers w bits room (sym e) .only-done refl in ltb-false room (length bits + w) (h .1 .0);
+    }
+
+append-writes : {w m : ℕ} {bits out : List ℕ} {r : Written} {o : List ℕ} → Appended w m bits out r o
+    → outputs.Writes (appendNumber w bits) (length bits + w) (attachedUnder w (generator w) m bits) out r o
+append-writes a = record { number = a .number; count = a .count; output = a .output }
+
+pub append-number : {w m : ℕ} {bits out : List ℕ} {r : Written} {o : List ℕ}
+    → Appended w m bits out r o → Answers (r .number) (appendConditions w bits (length out))
+append-number {w} {m} {bits} {out} a = append-answers w bits (length out) (a .number)
+
+pub append-confined : {w m : ℕ} {bits out : List ℕ} {r : Written} {o : List ℕ} → Appended w m bits out r o → Confined out r o
+append-confined {w} {m} {bits} a = outputs.confined (append-fits w m bits) (append-writes a)
+
+pub append-alike : {w m : ℕ} {bits out : List ℕ} {r : Written} {o other : List ℕ} {s : Written} {u : List ℕ} → length out ≡ length other
+    → Appended w m bits out r o → Appended w m bits other s u → Alike r o s u
+append-alike {w} {m} {bits} e a b = outputs.alike (append-fits w m bits) e (append-writes a) (append-writes b)
 
 -- parity::code_block
 module _ (R : List ℕ) (z : ℕ) (places : List ℕ) where

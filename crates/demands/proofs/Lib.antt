@@ -10,4 +10,5 @@ pub mod Demand2
 pub mod Demand3
 pub mod Worked
 pub mod Fifteen
+pub mod Masked
 pub mod Examples

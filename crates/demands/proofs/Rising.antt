@@ -1,4 +1,5 @@
--- "The lowest number that applies is answered", by every call of document 01: its lists rise, so the first number whose condition holds is the lowest.
+-- "The lowest number that applies is answered", by every call of document 01 and those of CR 9: their lists rise, so the first number whose condition holds
+-- is the lowest.
 use mathlib.Core.Path.{_≡_, refl}
 use mathlib.Core.List.{List, _++_}
 use Prim.Native.Nat.{ℕ}
@@ -7,6 +8,8 @@ use Rattle.bits.specs.declared.number.Written.{Written}
 use Rattle.bits.specs.declared.count.Terms.{Terms}
 use Rattle.checksum.specs.Promises.{bitsConditions, OfBits, octetsConditions, OfOctets}
 use Rattle.checksum.specs.declared.Sum.{Sum}
+use Rattle.masked.specs.Promises.{SumUnder, appendConditions, Appended, WordTested}
+use Rattle.masked.specs.declared.Tested.{Tested}
 use Rattle.profile.specs.Promises.{judgeConditions, judged}
 use Rattle.cutting.specs.Promises.{planConditions, planned}
 use Rattle.cutting.specs.declared.Plan.{Plan}
@@ -18,7 +21,7 @@ use Rattle.shelf.specs.Lookup.{lookupConditions, lookupNumber, lookupRecord}
 use Rattle.shelf.specs.Promises.{HostedSent, HostedReceived}
 use Rattle.demands.specs.Numbers.{Lowest}
 use Rattle.demands.proofs.Lowest.{rising, lowest}
-use Rattle.demands.proofs.Demand1.{of-bits-number, of-octets-number, judge-number, plan-block-number, code-block-number, check-word-number, rate-match-number, send-number, receive-number, lookup-number-number, hosted-send-number, hosted-receive-number}
+use Rattle.demands.proofs.Demand1.{of-bits-number, of-octets-number, sum-under-number, append-number, test-number, judge-number, plan-block-number, code-block-number, check-word-number, rate-match-number, send-number, receive-number, lookup-number-number, hosted-send-number, hosted-receive-number}
 
 pub of-bits-lowest : {w : ℕ} {bits : List ℕ} {r : Sum} → OfBits w bits r
     → Lowest (r .number) (bitsConditions w bits)
@@ -29,6 +32,21 @@ pub of-octets-lowest : {w : ℕ} {octets : List ℕ} {r : Sum} → OfOctets w oc
     → Lowest (r .number) (octetsConditions w)
 unfolding rising
 of-octets-lowest {w} a = lowest (octetsConditions w) refl (of-octets-number a)
+
+pub sum-under-lowest : {w m : ℕ} {bits : List ℕ} {r : Sum} → SumUnder w m bits r
+    → Lowest (r .number) (bitsConditions w bits)
+unfolding rising
+sum-under-lowest {w} {m} {bits} a = lowest (bitsConditions w bits) refl (sum-under-number a)
+
+pub append-lowest : {w m : ℕ} {bits out : List ℕ} {r : Written} {o : List ℕ} → Appended w m bits out r o
+    → Lowest (r .number) (appendConditions w bits (length out))
+unfolding rising
+append-lowest {w} {m} {bits} {out} a = lowest (appendConditions w bits (length out)) refl (append-number a)
+
+pub test-lowest : {w m : ℕ} {word : List ℕ} {r : Tested} → WordTested w m word r
+    → Lowest (r .number) (bitsConditions w word)
+unfolding rising
+test-lowest {w} {m} {word} a = lowest (bitsConditions w word) refl (test-number a)
 
 pub judge-lowest : (R : List ℕ) {r : ℕ} → r ≡ judged R
     → Lowest r (judgeConditions R)

@@ -2,7 +2,10 @@
 pub mod answers;
 mod check;
 mod crc;
+mod crcappend;
+mod crcm;
 mod crcoct;
+mod crctest;
 mod encode;
 mod hrecv;
 mod hsend;

@@ -2,7 +2,10 @@
 use crate::answers::Answer;
 use crate::check;
 use crate::crc;
+use crate::crcappend;
+use crate::crcm;
 use crate::crcoct;
+use crate::crctest;
 use crate::encode;
 use crate::hrecv;
 use crate::hsend;
@@ -28,6 +31,9 @@ pub fn answer(request: &[u8], records: &mut [u8], bits: &mut [u8], lent: &mut [u
     of_list(
         b"crc WIDTH BITS
 crcoct WIDTH PACKED
+crcm WIDTH MASK BITS
+crcappend WIDTH MASK BITS OUTLEN
+crctest WIDTH MASK BITS
 profile RECORD
 plan RECORD OCTETS
 encode RECORD Z PLACES OUTLEN
@@ -117,16 +123,19 @@ fn of_kind<'a>(
     match kind {
         0 => crc::answer(numbers, bits),
         1 => crcoct::answer(numbers, record),
-        2 => judge::answer(record),
-        3 => plan::answer(numbers, record),
-        4 => encode::answer(numbers, record, bits, lent),
-        5 => check::answer(numbers, record, bits),
-        6 => rate::answer(numbers, bits, lent),
-        7 => send::answer(numbers, record, bits, lent),
-        8 => recv::answer(numbers, record, bits, lent),
-        9 => lookup::answer(numbers, record, public),
-        10 => hsend::answer(numbers, record, public, bits, lent),
-        11 => hrecv::answer(numbers, record, public, bits, lent),
+        2 => crcm::answer(numbers, bits),
+        3 => crcappend::answer(numbers, bits, lent),
+        4 => crctest::answer(numbers, bits),
+        5 => judge::answer(record),
+        6 => plan::answer(numbers, record),
+        7 => encode::answer(numbers, record, bits, lent),
+        8 => check::answer(numbers, record, bits),
+        9 => rate::answer(numbers, bits, lent),
+        10 => send::answer(numbers, record, bits, lent),
+        11 => recv::answer(numbers, record, bits, lent),
+        12 => lookup::answer(numbers, record, public),
+        13 => hsend::answer(numbers, record, public, bits, lent),
+        14 => hrecv::answer(numbers, record, public, bits, lent),
         _ => Answer::Error(Fault::Request),
     }
 }

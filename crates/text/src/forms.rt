@@ -214,15 +214,16 @@ fn second_half(word: &[u8], records: &mut [u8]) -> Parsed
     values::octets(word, &mut records[half..])
 }
 
-// The names of numbers that have a range; each other number has 64 bits.
+// The names of numbers that have a range or another form; each other number has 64 bits.
 fn read_number(name: &[u8], word: &[u8], room: usize, given: Given) -> Given
     requires { ⌜ given .lent ≤ room ⌝ }
     ensures { λ r. ⌜ (r .record ≡ given .record) × (r .public ≡ given .public) × (r .bits ≡ given .bits) × (r .lent ≤ room) ⌝ }
 {
-    let place = words::entry(b"OUTLEN TENANT PROFILE", b' ', b' ', name).place;
+    let place = words::entry(b"OUTLEN TENANT PROFILE MASK", b' ', b' ', name).place;
     match place {
         0 => given.with_lent(values::outlen(word, room)),
         1..=2 => given.with(values::short(word)),
+        3 => given.with(values::mask(word)),
         _ => given.with(values::number(word)),
     }
 }

@@ -86,6 +86,24 @@ pub fn number(word: &[u8]) -> Parsed {
     Parsed::Value(value)
 }
 
+// A mask has 1 to 16 hexadecimal digits, so that none goes over the top of a `usize`.
+pub fn mask(word: &[u8]) -> Parsed {
+    if !bits::inner::is_within(1, 16, word.len()) {
+        return Parsed::Bad(Fault::Number);
+    }
+    let mut value: usize = 0;
+    let mut i = 0;
+    while i < word.len() {
+        let d = to_usize(digit(word[i]));
+        if d > 15 {
+            return Parsed::Bad(Fault::Number);
+        }
+        value = (value << 4) | d;
+        i += 1;
+    }
+    Parsed::Value(value)
+}
+
 // A number of two octets.
 pub fn short(word: &[u8]) -> Parsed {
     match number(word) {

@@ -41,6 +41,20 @@ mod tests {
         assert_eq!(answered("crc 8 12"), "12 0");
         assert_eq!(answered("crcoct 24 01"), "0 864cfb");
         assert_eq!(answered("crcoct 7 01"), "8 0");
+        assert_eq!(answered("crcm 16 ffff 1"), "0 efde");
+        assert_eq!(answered("crcm 8 1ff 1"), "0 64");
+        assert_eq!(answered("crcm 7 ffff 1"), "8 0");
+        assert_eq!(answered("crcm 8 ff 12"), "12 0");
+        assert_eq!(answered("crcappend 16 ffff 1 17"), "0 17 f7ef00");
+        assert_eq!(answered("crcappend 15 ffff 1 17"), "8 0 -");
+        assert_eq!(answered("crcappend 16 ffff 1 16"), "11 0 -");
+        assert_eq!(answered("crcappend 16 ffff 2 17"), "12 0 -");
+        let word = "11110111111011110";
+        assert_eq!(answered(&format!("crctest 16 ffff {word}")), "0 1");
+        assert_eq!(answered(&format!("crctest 16 0 {word}")), "0 0");
+        assert_eq!(answered("crctest 16 ffff 1111"), "0 0");
+        assert_eq!(answered("crctest 0 ffff -"), "8 0");
+        assert_eq!(answered("crctest 16 ffff 2"), "12 0");
         assert_eq!(answered(&format!("profile {TOY}")), "0");
         assert_eq!(answered(&format!("profile {TOY}00")), "5");
         assert_eq!(answered(&format!("plan {TOY} 13")), "0 128 64 2 2");
@@ -88,6 +102,9 @@ mod tests {
         assert_eq!(answered("crc 8 10011"), "0 4");
         assert_eq!(answered("crc 16 10001"), "0 210");
         assert_eq!(answered("crc 24 11"), "0 c99f6");
+        // P4 and P5 with nearly all of the checksum, or all of it, taken away by the mask.
+        assert_eq!(answered("crcm 8 9a 1"), "0 1");
+        assert_eq!(answered("crcm 16 1021 1"), "0 0");
     }
 
     #[test]
@@ -115,6 +132,8 @@ mod tests {
         assert_eq!(answered("src 8 1"), "error request");
         assert_eq!(answered("crc 8"), "error words");
         assert_eq!(answered("crc eight 1"), "error number");
+        assert_eq!(answered("crcm 8 eight 1"), "error number");
+        assert_eq!(answered("crctest 8 x:01 1"), "error number");
         let long = "1".repeat(BITS_ROOM + 1);
         assert_eq!(answered(&format!("crc 8 {long}")), "error long");
         assert_eq!(answered("crc 8 one"), "error bits");

@@ -10,11 +10,9 @@ const CRC8: &[usize] = &[8, 7, 4, 3, 1, 0];
 
 /// The checksum of single bits, or the number that refuses them (document 01).
 pub fn checksum(width: u64, bits: &[u8]) -> Result<u32, Number> {
-    let exponents = exponents(width).ok_or(PARAMETER)?;
-    if bits.iter().any(|&bit| bit > 1) {
-        return Err(NO_BIT);
-    }
-    Ok(value(&parity_bits(bits, &coefficients(exponents))))
+    let generator = generator(width)?;
+    single_bits(bits)?;
+    Ok(value(&parity_bits(bits, &generator)))
 }
 
 /// The checksum of packed octets, the highest bit of each first, or the number that refuses them.
@@ -25,6 +23,20 @@ pub fn checksum_of_octets(width: u64, octets: &[u8]) -> Result<u32, Number> {
 /// "Append the 24 checksum bits of gCRC24A" (document 01, step 1).
 pub fn with_checksum(bits: &[u8]) -> Vec<u8> {
     [bits, &parity_bits(bits, &coefficients(CRC24A))].concat()
+}
+
+/// The generator of a width as its coefficients, or the number for "a checksum width other than 8, 16
+/// or 24".
+pub fn generator(width: u64) -> Result<Vec<u8>, Number> {
+    exponents(width).map(coefficients).ok_or(PARAMETER)
+}
+
+/// The number for "any octet over 1 where single bits are taken", if there is one.
+pub fn single_bits(octets: &[u8]) -> Result<(), Number> {
+    if octets.iter().any(|&octet| octet > 1) {
+        return Err(NO_BIT);
+    }
+    Ok(())
 }
 
 fn exponents(width: u64) -> Option<&'static [usize]> {
@@ -46,7 +58,7 @@ fn coefficients(exponents: &[usize]) -> Vec<u8> {
 
 /// The parity bits of 5.1.1. With zeros in their places the division leaves just what has to be
 /// taken away there for it to leave nothing, and modulo two taking away is adding.
-fn parity_bits(bits: &[u8], generator: &[u8]) -> Vec<u8> {
+pub fn parity_bits(bits: &[u8], generator: &[u8]) -> Vec<u8> {
     let degree = generator.len() - 1;
     let mut dividend = bits.to_vec();
     dividend.resize(bits.len() + degree, 0);
@@ -55,7 +67,7 @@ fn parity_bits(bits: &[u8], generator: &[u8]) -> Vec<u8> {
 
 /// The last places of the dividend, as many as the generator's degree, after division on paper.
 /// The dividend has at least that many places, and the generator begins with a 1.
-fn remainder(mut dividend: Vec<u8>, generator: &[u8]) -> Vec<u8> {
+pub fn remainder(mut dividend: Vec<u8>, generator: &[u8]) -> Vec<u8> {
     let degree = generator.len() - 1;
     let quotient_places = dividend.len() - degree;
     for place in 0..quotient_places {
@@ -74,17 +86,14 @@ fn subtract(coefficients: &mut [u8], generator: &[u8]) {
 }
 
 /// The number whose binary digits are these bits, the highest first.
-fn value(bits: &[u8]) -> u32 {
+pub fn value(bits: &[u8]) -> u32 {
     bits.iter()
         .fold(0, |value, &bit| 2 * value + u32::from(bit))
 }
 
 #[cfg(test)]
 mod tests {
-    use super::{
-        checksum, checksum_of_octets, coefficients, exponents, parity_bits, remainder, value,
-        with_checksum,
-    };
+    use super::{checksum, checksum_of_octets, parity_bits, remainder, value, with_checksum};
     use crate::numbers::{NO_BIT, PARAMETER};
     use crate::octets::unpacked;
     use crate::random::Random;
@@ -93,7 +102,7 @@ mod tests {
     const WIDTHS: [u64; 3] = [8, 16, 24];
 
     fn generator(width: u64) -> Vec<u8> {
-        coefficients(exponents(width).unwrap())
+        super::generator(width).unwrap()
     }
 
     fn parity(width: u64, message: &[u8]) -> Vec<u8> {

@@ -19,6 +19,8 @@ pub enum Word {
     Short,
     /// The length of an output.
     Length,
+    /// A number in hexadecimal.
+    Mask,
     /// Bits, or places.
     Bits,
     /// Packed octets, and how many there is room for.
@@ -137,6 +139,7 @@ impl Word {
             Word::Number => words::number(text).map(Value::Number),
             Word::Short => words::short(text).map(|number| Value::Number(number.into())),
             Word::Length => words::length(text).map(|length| Value::Number(length as u64)),
+            Word::Mask => words::mask(text).map(Value::Number),
             Word::Bits => words::bits(text).map(Value::Octets),
             Word::Hex(room) => words::hex(text, room).map(Value::Octets),
         }

@@ -6,6 +6,7 @@ pub mod crcoct;
 pub mod hosted;
 mod large;
 mod makers;
+pub mod masked;
 pub mod parity;
 pub mod profile;
 pub mod rate;
@@ -116,6 +117,15 @@ mod tests {
         counts
     }
 
+    /// How many of the lines have this answer.
+    fn answered(mut input: &[u8], text: &str) -> usize {
+        let mut count = 0;
+        while let Some(line) = next_line(&mut input).unwrap() {
+            count += usize::from(answer(&line).as_deref() == Some(text));
+        }
+        count
+    }
+
     /// The numbers that are answered often enough among 3,000 requests of a kind, and the rest of
     /// the answers.
     fn numbers_of(kind: &str) -> (BTreeSet<Number>, BTreeMap<String, usize>) {
@@ -157,6 +167,9 @@ mod tests {
         for (kind, expected) in [
             ("crc", &[0, 8, 12][..]),
             ("crcoct", &[0, 8]),
+            ("crcm", &[0, 8, 12]),
+            ("crcappend", &[0, 8, 11, 12]),
+            ("crctest", &[0, 8, 12]),
             ("profile", &[0, 5, 6]),
             ("plan", &[0, 5, 6, 7, 9]),
             ("encode", &[0, 5, 6, 8, 11, 12]),
@@ -180,6 +193,16 @@ mod tests {
             let counts = answers(&generated(Some(kind), 4, 900));
             assert!(counts["0"] > 300, "{kind}: {counts:?}");
         }
+    }
+
+    #[test]
+    fn words_are_tested_with_either_answer() {
+        let lines = generated(Some("crctest"), 4, 2000);
+        let (yes, no) = (answered(&lines, "0 1"), answered(&lines, "0 0"));
+        let done = yes + no;
+        // Of the lines that are done, half are words that test and a quarter are others.
+        assert!(3 * done > 2000, "{done}");
+        assert!(2 * yes > done && 4 * no > done, "{yes} {no}");
     }
 
     /// The transfer that a line of `send`, `recv`, `hsend` or `hrecv` asks for, where there is one.

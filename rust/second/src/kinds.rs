@@ -2,7 +2,10 @@
 
 mod check;
 mod crc;
+mod crcappend;
+mod crcm;
 mod crcoct;
+mod crctest;
 mod encode;
 mod hrecv;
 mod hsend;
@@ -21,6 +24,9 @@ use crate::generate::Makers;
 pub const KINDS: &[Kind] = &[
     crc::KIND,
     crcoct::KIND,
+    crcm::KIND,
+    crcappend::KIND,
+    crctest::KIND,
     profile::KIND,
     plan::KIND,
     encode::KIND,

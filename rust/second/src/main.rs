@@ -11,6 +11,7 @@ mod generate;
 mod hosted;
 mod kinds;
 mod lines;
+mod masked;
 mod matrix;
 mod numbers;
 mod octets;

@@ -14,6 +14,9 @@ pub const BLOCK_ROOM: usize = 4_096;
 /// The longest output that is lent.
 pub const OUTPUT_ROOM: usize = 140_000;
 
+/// The most digits of a mask, its zeros in front among them: those of a number of 64 bits.
+pub const MASK_ROOM: usize = 16;
+
 /// A decimal number. Zeros in front change no value, so any count of them is taken.
 pub fn number(word: &[u8]) -> Result<u64, Fault> {
     if word.is_empty() {
@@ -41,6 +44,19 @@ pub fn length(word: &[u8]) -> Result<usize, Fault> {
         Ok(length) if length <= OUTPUT_ROOM => Ok(length),
         _ => Err(Fault::Long),
     }
+}
+
+/// A mask, in hexadecimal. What is over its room is no number, and has no error of its own.
+pub fn mask(word: &[u8]) -> Result<u64, Fault> {
+    if word.is_empty() || word.len() > MASK_ROOM {
+        return Err(Fault::Number);
+    }
+    let mut value = 0;
+    for &character in word {
+        let digit = hexadecimal(character).ok_or(Fault::Number)?;
+        value = 16 * value + u64::from(digit);
+    }
+    Ok(value)
 }
 
 /// The octets of a word of bits or of places. They may be over 1, or over 2: the call that takes
@@ -108,7 +124,7 @@ fn hexadecimal(character: u8) -> Option<u8> {
 
 #[cfg(test)]
 mod tests {
-    use super::{bits, hex, length, number, short, BITS_ROOM, OUTPUT_ROOM, SHELF_ROOM};
+    use super::{bits, hex, length, mask, number, short, BITS_ROOM, OUTPUT_ROOM, SHELF_ROOM};
     use crate::errors::Fault;
 
     #[test]
@@ -177,6 +193,68 @@ mod tests {
         }
         for word in [&b"18446744073709551616"[..], b"-", b"q", b"-1"] {
             assert_eq!(length(word), Err(Fault::Number));
+        }
+    }
+
+    #[test]
+    fn a_mask_is_hexadecimal() {
+        assert_eq!(mask(b"0"), Ok(0));
+        assert_eq!(mask(b"10"), Ok(16));
+        assert_eq!(mask(b"24"), Ok(36));
+        assert_eq!(mask(b"1fF"), Ok(511));
+        assert_eq!(mask(b"9aBcDeF"), Ok(0x09ab_cdef));
+        assert_eq!(mask(b"8000000000000000"), Ok(1 << 63));
+        for word in [
+            b"ffffffffffffffff",
+            b"FFFFFFFFFFFFFFFF",
+            b"FFFFffffFFFFffff",
+        ] {
+            assert_eq!(mask(word), Ok(u64::MAX));
+        }
+    }
+
+    #[test]
+    fn a_mask_has_at_most_16_digits() {
+        for zeros in 0..15 {
+            let word = [&vec![b'0'; zeros][..], b"f"].concat();
+            assert_eq!(mask(&word), Ok(15));
+        }
+        for count in 17..40 {
+            assert_eq!(mask(&vec![b'0'; count]), Err(Fault::Number));
+            assert_eq!(mask(&vec![b'1'; count]), Err(Fault::Number));
+            assert_eq!(mask(&vec![b'z'; count]), Err(Fault::Number));
+        }
+        assert_eq!(mask(&vec![b'0'; BITS_ROOM + 1]), Err(Fault::Number));
+        assert_eq!(mask(b"00000000000000001"), Err(Fault::Number));
+        assert_eq!(mask(b"10000000000000000"), Err(Fault::Number));
+    }
+
+    #[test]
+    fn a_mask_has_hexadecimal_digits_and_nothing_else() {
+        for character in 0..=255u8 {
+            let known = character.is_ascii_hexdigit();
+            for word in [&[character][..], &[b'1', character], &[character, b'1']] {
+                let expected = if known { None } else { Some(Fault::Number) };
+                assert_eq!(mask(word).err(), expected);
+            }
+        }
+        for word in [
+            &b""[..],
+            b"-",
+            b"--",
+            b"x:",
+            b"x:01",
+            b"0x1",
+            b"0X1",
+            b"+1",
+            b"-1",
+            b"1h",
+            b"1_0",
+            b"1.0",
+            b"f\r",
+            b"\xef\xbc\x91",
+        ] {
+            assert_eq!(mask(word), Err(Fault::Number));
         }
     }
 

@@ -11,6 +11,12 @@ const FORM: Form = Form {
     ],
 };
 
+/// A form with a mask.
+const MASKED: Form = Form {
+    words: &[Word::Number, Word::Mask, Word::Bits],
+    options: &[],
+};
+
 /// What the words after the name give.
 fn read(text: &str) -> Result<Given, Fault> {
     let words: Vec<&[u8]> = text.split(' ').map(str::as_bytes).collect();
@@ -29,6 +35,25 @@ fn words_are_taken_from_left_to_right() {
     let mut given = read("8 101").unwrap();
     assert_eq!(given.number(), 8);
     assert_eq!(given.octets(), [1, 0, 1]);
+}
+
+#[test]
+fn a_mask_is_a_number_in_hexadecimal() {
+    let mut given = MASKED.read(&[b"10", b"10", b"10"]).unwrap();
+    assert_eq!((given.number(), given.number()), (10, 16));
+    assert_eq!(given.octets(), [1, 0]);
+}
+
+#[test]
+fn what_is_no_mask_is_no_number() {
+    for mask in [&b"g"[..], b"-", b"x:01", b"00000000000000001"] {
+        for bits in [&b"1"[..], b"q"] {
+            let given = MASKED.read(&[b"8", mask, bits]);
+            assert_eq!(given.err(), Some(Fault::Number));
+        }
+    }
+    let empty = MASKED.read(&[b"8", b"", b"1"]);
+    assert_eq!(empty.err(), Some(Fault::Words));
 }
 
 #[test]

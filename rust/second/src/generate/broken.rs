@@ -107,16 +107,19 @@ fn word_at_the_edge(word: Word, random: &mut Random) -> Vec<u8> {
     let number = number_at_the_edge(random);
     let bits = bits_at_the_edge(random);
     let hex = hex_at_the_edge(random);
+    let mask = mask_at_the_edge(random);
     let own = match word {
         Word::Number | Word::Short | Word::Length => number,
+        Word::Mask => mask,
         Word::Bits => bits,
         Word::Hex(_) => hex,
     };
     // Now and then a word of another kind.
-    match random.below(8) {
+    match random.below(9) {
         0 => number.to_vec(),
         1 => bits.to_vec(),
         2 => hex.to_vec(),
+        3 => mask.to_vec(),
         _ => own.to_vec(),
     }
 }
@@ -153,6 +156,46 @@ fn number_at_the_edge(random: &mut Random) -> &'static [u8] {
         b"eight",
     ];
     random.pick(&numbers)
+}
+
+fn mask_at_the_edge(random: &mut Random) -> &'static [u8] {
+    let masks: [&[u8]; 34] = [
+        b"0",
+        b"00",
+        b"a",
+        b"F",
+        b"10",
+        b"0000000000000000",
+        b"000000000000ffff",
+        b"0000000000000001",
+        b"8000000000000000",
+        b"7fffffffffffffff",
+        b"fffffffffffffffe",
+        b"FFFFffffFFFFffff",
+        b"ffffffffffff0000",
+        b"00000000000000000",
+        b"00000000000000001",
+        b"0ffffffffffffffff",
+        b"10000000000000000",
+        b"1000000000000ffff",
+        b"fffffffffffffffff",
+        b"000000000000000000000000000000001",
+        b"g",
+        b"G",
+        b"/",
+        b":",
+        b"@",
+        b"`",
+        b"0x1",
+        b"x:1",
+        b"x:01",
+        b"-",
+        b"-1",
+        b"+1",
+        b"f\0",
+        b"\xef\xbc\x91",
+    ];
+    random.pick(&masks)
 }
 
 fn bits_at_the_edge(random: &mut Random) -> &'static [u8] {

@@ -36,7 +36,7 @@ fn request(width: u64, bits: &[u8], random: &mut Random) -> Words {
 }
 
 /// Single bits of many lengths.
-fn message(random: &mut Random) -> Vec<u8> {
+pub fn message(random: &mut Random) -> Vec<u8> {
     let length = length(random);
     bits(length, random)
 }

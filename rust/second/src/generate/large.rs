@@ -87,7 +87,7 @@ fn of_kind(kind: &Kind) -> Vec<Long> {
     let places = kind.form.words.iter().enumerate();
     let words = places.flat_map(|(place, word)| {
         let makers = match word {
-            Word::Number | Word::Short | Word::Length => &NUMBERS[..],
+            Word::Number | Word::Short | Word::Length | Word::Mask => &NUMBERS[..],
             Word::Bits => &BITS,
             Word::Hex(_) => &OCTETS,
         };

@@ -1,6 +1,7 @@
-//! Writes the words of requests: numbers, bits and packed octets in each of their forms.
+//! Writes the words of requests: numbers, masks, bits and packed octets in each of their forms.
 
 use crate::random::Random;
+use crate::words::MASK_ROOM;
 
 /// The words of a request, its name first.
 pub type Words = Vec<Vec<u8>>;
@@ -24,6 +25,20 @@ pub fn number(number: u64, random: &mut Random) -> Vec<u8> {
 /// A length.
 pub fn count(count: usize, random: &mut Random) -> Vec<u8> {
     number(count as u64, random)
+}
+
+/// A mask, now and then with zeros in front, and its letters in one case or in both.
+pub fn mask(mask: u64, random: &mut Random) -> Vec<u8> {
+    let any = 1 + random.below(MASK_ROOM);
+    let places = random.pick(&[1, 1, 1, 1, any, MASK_ROOM]);
+    let uppers = random.pick(&[&[false][..], &[true], &[false, true]]);
+    let mut digits = format!("{mask:0places$x}").into_bytes();
+    for digit in &mut digits {
+        if random.pick(uppers) {
+            digit.make_ascii_uppercase();
+        }
+    }
+    digits
 }
 
 /// The bits as digits where no octet is over 9, else as pairs; now and then as pairs anyway.
@@ -58,4 +73,27 @@ fn pairs(octets: &[u8], random: &mut Random) -> Vec<u8> {
         .flat_map(|octet| [octet / 16, octet % 16])
         .map(|digit| digits[usize::from(digit)])
         .collect()
+}
+
+#[cfg(test)]
+mod tests {
+    use super::mask;
+    use crate::random::Random;
+    use crate::words;
+
+    #[test]
+    fn a_mask_is_written_in_each_of_its_forms() {
+        let mut random = Random::new(1);
+        for number in [0, 0xab, 0xffff, 0x1234_5678, u64::MAX] {
+            let written: Vec<Vec<u8>> = (0..300).map(|_| mask(number, &mut random)).collect();
+            assert!(written.iter().all(|word| words::mask(word) == Ok(number)));
+            let shortest = format!("{number:x}");
+            let longest = format!("{number:016x}");
+            for form in [&shortest, &shortest.to_uppercase(), &longest] {
+                assert!(written.contains(&form.clone().into_bytes()), "{form}");
+            }
+        }
+        let both = (0..300).any(|_| mask(0xab, &mut random) == b"aB");
+        assert!(both);
+    }
 }

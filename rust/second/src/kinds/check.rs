@@ -1,10 +1,10 @@
 //! `check RECORD Z BITS`: whether a coded word checks.
 
+use super::parts::tested;
 use super::Kind;
 use crate::errors::Fault;
 use crate::form::{Form, Given, Word};
 use crate::generate::parity::CHECK;
-use crate::numbers::DONE;
 use crate::parity::check;
 use crate::words::SHELF_ROOM;
 
@@ -20,8 +20,5 @@ pub const KIND: Kind = Kind {
 
 fn answer(mut given: Given) -> Result<String, Fault> {
     let (record, z) = (given.octets(), given.number());
-    Ok(match check(&record, z, &given.octets()) {
-        Ok(checks) => format!("{DONE} {}", u8::from(checks)),
-        Err(number) => format!("{number} 0"),
-    })
+    Ok(tested(check(&record, z, &given.octets())))
 }

@@ -66,6 +66,14 @@ pub fn sum(checksum: Result<u32, Number>) -> String {
     }
 }
 
+/// A test's 1 for yes, and 0 for no.
+pub fn tested(holds: Result<bool, Number>) -> String {
+    match holds {
+        Ok(holds) => format!("{DONE} {}", u8::from(holds)),
+        Err(number) => format!("{number} 0"),
+    }
+}
+
 /// The number and the count of a call, and what it wrote, in the form of the request.
 pub fn written(
     length: usize,

@@ -55,6 +55,50 @@ fn a_request_of_packed_octets_is_read() {
 }
 
 #[test]
+fn requests_under_a_mask_are_read() {
+    let values = |mask| [number(16), number(mask), octets(&[0, 1, 9])];
+    assert_eq!(request(b"crcm 16 10 019"), read("crcm", &values(16)));
+    assert_eq!(
+        request(b"crctest 16 FFFFffffFFFFffff 019"),
+        read("crctest", &values(u64::MAX))
+    );
+    assert_eq!(
+        request(b"crcappend 16 000000000000fFfF 019 7"),
+        read("crcappend", &[&values(0xffff)[..], &[number(7)]].concat())
+    );
+}
+
+#[test]
+fn a_mask_has_1_to_16_digits() {
+    for (name, length) in [("crcm", ""), ("crctest", ""), ("crcappend", " 9")] {
+        let asked = |mask: &str| request(format!("{name} 8 {mask} 1{length}").as_bytes());
+        assert!(asked("0").is_ok());
+        assert!(asked("0000000000000000").is_ok());
+        assert_eq!(asked(""), Err(Fault::Words));
+        for mask in [
+            "00000000000000000",
+            "10000000000000000",
+            "g",
+            "-",
+            "x:1",
+            "0x1",
+            "+1",
+            "rv=0",
+        ] {
+            assert_eq!(asked(mask), Err(Fault::Number), "{name} {mask}");
+        }
+    }
+}
+
+#[test]
+fn a_mask_is_looked_at_in_its_turn() {
+    assert_eq!(request(b"crcappend q 0 0 140001"), Err(Fault::Number));
+    assert_eq!(request(b"crcappend 7 q q 140001"), Err(Fault::Number));
+    assert_eq!(request(b"crcappend 7 f q 140001"), Err(Fault::Bits));
+    assert_eq!(request(b"crcappend 7 f 2 140001"), Err(Fault::Long));
+}
+
+#[test]
 fn requests_about_a_record_are_read() {
     let record = || octets(&[0x00, 0xfe]);
     assert_eq!(request(b"profile 00fe"), read("profile", &[record()]));
@@ -188,6 +232,9 @@ fn every_request_has_its_count_of_words() {
     for (name, count) in [
         ("crc", 2),
         ("crcoct", 2),
+        ("crcm", 3),
+        ("crcappend", 4),
+        ("crctest", 3),
         ("profile", 1),
         ("plan", 2),
         ("encode", 4),

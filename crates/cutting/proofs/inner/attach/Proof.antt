@@ -1,7 +1,11 @@
 -- `cutting::inner::attach` meets its contract.
 use mathlib.Core.Path.{refl}
+use denote.Ref.{now}
 use borrow.Author.Needs.{needs}
+use Rattle.bits.specs.Bits.{unpacked}
+use Rattle.checksum.specs.Crc.{gen24A}
 use Rattle.checksum.specs.Promises.{otherWidth}
+use Rattle.checksum.proofs.Masked.{attached-zero-mask}
 use Rattle.cutting.specs.Plan.{blockBits}
 use Rattle.cutting.specs.Transport.{transport}
 use Rattle.cutting.proofs.Transported.{own-24}
@@ -17,7 +21,9 @@ same-length c = search needs
 
 returns : tie.Need-returns
 unfolding transport
-returns c = cc own-24
+returns c =
+    let a = unpacked (now (c .before .before .before .before .before .before .args .block)) in
+    cc (own-24, attached-zero-mask 24 gen24A a)
 
 pub attach-spec : {M : Type 1} → statement M
 attach-spec = tie.close (tie.spec attach-requires same-length returns)
