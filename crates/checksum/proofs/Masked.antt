@@ -52,7 +52,7 @@ module _ (w : ℕ) where
 -- ---- appending
 
 module _ (w g m : ℕ) where
-  -- 5.3.1.1 of 5G.212: the bits a_k, and behind them (p_k + x_k) mod 2 for the checksum's bits p_k and the mask's bits x_k
+  -- 5.3.1.1 and 5.3.3.2 of 5G.212: the bits a_k, and behind them (p_k + x_k) mod 2 for the checksum's bits p_k and the mask's bits x_k
   pub attached-under-front : (a : List ℕ) → take (length a) (attachedUnder w g m a) ≡ a
   unfolding attachedUnder
   attached-under-front a = take-append-seam a (digits w (checksumUnder w g m a))
@@ -93,7 +93,7 @@ module _ (w g m : ℕ) where
   tests-complete a =
       ap (λ (z : List ℕ). same (attachedUnder w g m a) (attachedUnder w g m z)) (before-last a) ∙ same-self (attachedUnder w g m a)
 
-  -- "A word shorter than its checksum" is no appended word
+  -- a word shorter than its checksum is no appended word
   pub short-fails : (b : List ℕ) → length b < w → testsUnder w g m b ≡ false
   short-fails b h =
       either-way (testsUnder w g m b) false

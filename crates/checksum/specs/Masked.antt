@@ -15,7 +15,8 @@ under w m s = bitXor s (m % 2 ^ w)
 unfoldable pub checksumUnder : ℕ → ℕ → ℕ → List ℕ → ℕ
 checksumUnder w g m a = under w m (checksum w g a)
 
--- appending: the bits, and then the checksum's w bits under the mask, the highest first, as 5.3.1.1 of 5G.212 adds x_0 to p_0
+-- appending: the bits, and then the checksum's w bits under the mask, the highest first: 5.3.1.1 and 5.3.3.2 of 5G.212 add x_0 to p_0, and x_0
+-- "corresponds to the MSB"
 unfoldable pub attachedUnder : ℕ → ℕ → ℕ → List ℕ → List ℕ
 attachedUnder w g m a = a ++ digits w (checksumUnder w g m a)
 

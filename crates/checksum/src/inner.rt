@@ -1,4 +1,4 @@
-// Checksums where the width was tested: of octets by its table, of single bits by any generator that it has room for.
+// Checksums where the width was tested: of octets by its table, of single bits by any generator that it has room for; and masks.
 use crate::register;
 use crate::table;
 ghost use mathlib.Core.Path.{_≡_};
@@ -41,7 +41,7 @@ pub fn sum_bits(bits: &[u8], w: u32, g: u32) -> u32
     r
 }
 
-// The w low bits of a mask: whatever is over the width goes here and nowhere else.
+// The w low bits of a mask: whatever is past the width is cut off here and nowhere else.
 fn low(mask: u64, w: u32) -> u32
     requires { ⌜ w ≤ 32 ⌝ }
     ensures { λ r. ⌜ r ≡ mask % 2 ^ w ⌝ }
@@ -49,7 +49,7 @@ fn low(mask: u64, w: u32) -> u32
     (mask & ((1u64 << w) - 1)) as u32
 }
 
-// A sum under a mask.
+// A sum under a mask: without carry, so that the same mask takes itself away again.
 pub fn under(sum: u32, w: u32, mask: u64) -> u32
     requires { ⌜ w ≤ 32 ⌝ }
     ensures { λ r. ⌜ r ≡ under w mask sum ⌝ }
@@ -68,7 +68,7 @@ pub fn attach(octets: &[u8], w: u32, mask: u64, out: &mut [u8])
     bits::inner::put_number(out, a, sum, w);
 }
 
-// Whether the last w bits are the checksum under a mask of those before them, which `octets` has packed: recomputed, and compared.
+// Whether the last w bits are the checksum of those before them, under a mask; `octets` has these packed. It is recomputed, and compared.
 pub fn is_attached(bits: &[u8], octets: &[u8], w: u32, mask: u64) -> bool
     requires { ⌜ (otherWidth w ≡ false) × (w ≤ length (now bits)) × AreBits (now bits) × (unpacked (now octets) ≡ take (length (now bits) - w) (now bits)) ⌝ }
     ensures { λ r. ⌜ r ≡ testsUnder w (generator w) mask (now (bits .entry)) ⌝ }

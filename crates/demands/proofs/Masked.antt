@@ -11,7 +11,7 @@ use lib.Dec.{ltb, lit<}
 use lib.ListN.{length, getD, take, drop}
 use lib.Seq.{take-at}
 use Rattle.bits.specs.Bits.{AreBits, someOver, same, digits}
-use Rattle.bits.specs.Numbers.{whenDone}
+use Rattle.bits.specs.Numbers.{answered, whenDone}
 use Rattle.bits.specs.declared.number.Written.{Written}
 use Rattle.bits.proofs.Answers.{passes, passed, none-left, when-done, when-refused}
 use Rattle.bits.proofs.Digits.{digits-bits}
@@ -32,7 +32,8 @@ use Rattle.masked.proofs.Answers.{append-passed}
 -- ---- over every width and generator
 
 module _ (w g : ℕ) where
-  -- "A zero mask gives today's answers": appending gives what is attached today, and testing what the receiver's test gives
+  -- "A zero mask gives today's answers": appending gives what is attached today, and testing what the receiver's test gives of words that have w bits at
+  -- least
   pub zero-appends : (a : List ℕ) → attachedUnder w g 0 a ≡ attached w g a
   zero-appends a = attached-zero-mask w g a
 
@@ -76,8 +77,8 @@ module _ {w m : ℕ} {bits out : List ℕ} {r : Written} {o : List ℕ} (a : App
   -- the width is one of the three, and the bits are bits
   append-takes : (otherWidth w ≡ false) × AreBits bits
   append-takes =
-      let done = append-passed w bits (length out) unrefused .0 in
-      (three w bits done, bits-done w bits done .1)
+      let summed = append-passed w bits (length out) unrefused .0 in
+      (three w bits summed, bits-done w bits summed .1)
 
   -- what is written is the word that appending means
   pub append-word : take (r .count) o ≡ attachedUnder w (generator w) m bits
@@ -93,7 +94,7 @@ module _ {w m : ℕ} {bits out : List ℕ} {r : Written} {o : List ℕ} (a : App
   word-bits = rw append-word (bits-append bits (digits w (checksumUnder w (generator w) m bits)) (append-takes .1) (digits-bits w (checksumUnder w (generator w) m bits)))
 
   -- ---- "added bit by bit without carry": the bits as they were, and then p_k + x_k modulo two for the checksum's bits p_k and the mask's bits x_k, both
-  -- the highest first (5.3.1.1 of 5G.212)
+  -- the highest first (5.3.1.1 and 5.3.3.2 of 5G.212)
 
   pub appended-front : take (length bits) (take (r .count) o) ≡ bits
   appended-front = rw append-word (attached-under-front w (generator w) m bits)
@@ -139,7 +140,7 @@ module _ {w m : ℕ} {word : List ℕ} {s : Tested} (t : WordTested w m word s) 
       let number : r .number ≡ 0 = a .number ∙ roomy w bits (length out) (three w word (done .0)) single (omega arith) in
       (number, append-word a number ∙ sym whole)
 
-  -- "A word shorter than its checksum: done, no"
+  -- a word shorter than its checksum: done, no
   pub short-tested : otherWidth w ≡ false → AreBits word → length word < w → (s .number ≡ 0) × (s .holds ≡ false)
   short-tested other single short =
       let done : bitsNumber w word ≡ 0 = taken w word other single in
@@ -195,7 +196,8 @@ module _ (w m n : ℕ) (e : m % 2 ^ w ≡ n % 2 ^ w) where
             ∙ ap (λ (x : List ℕ). whenDone (bitsNumber w word) (same word x) false) (attached-under-same w (generator w) m n (take (length word - w) word) e);
       }
 
--- ---- no statement is empty: the single bit 1, whose checksums are 1021 and 9B (P4, P5), with every bit changed, with the last one, and with every second
+-- ---- no statement is empty: the single bit 1, whose checksums are 1021 and 9B (P4, P5), with every bit changed, with the last one, and with every second;
+-- and appending it, with each number
 
 abbrev bit : List ℕ
 bit = 1 ∷ []
@@ -214,3 +216,7 @@ pub worked-tests : _≡_ {A = List Bool} (testsUnder 16 gen16 0xFFFF (attachedUn
     (true ∷ false ∷ [])
 unfolding under checksumUnder attachedUnder testsUnder same digits reduce divideOn remainder checksum
 worked-tests = refl
+
+pub worked-numbers : _≡_ {A = List ℕ} (appendNumber 7 bit 0 ∷ appendNumber 16 bit 16 ∷ appendNumber 16 (2 ∷ []) 17 ∷ appendNumber 16 bit 17 ∷ []) (8 ∷ 11 ∷ 12 ∷ 0 ∷ [])
+unfolding appendNumber answered otherWidth someOver
+worked-numbers = refl

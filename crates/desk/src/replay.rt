@@ -17,7 +17,7 @@ Reads requests, one to a line, and writes an answer to each. Requests, and what 
   crcoct WIDTH PACKED                the checksum of packed octets
   crcm WIDTH MASK BITS               the checksum of the bits under a mask
   crcappend WIDTH MASK BITS OUTLEN   the bits, with that checksum behind them
-  crctest WIDTH MASK BITS            1 if the bits end in that checksum, else 0
+  crctest WIDTH MASK BITS            1 if the bits end in such a checksum of those before, else 0
   profile RECORD                     nothing: the number says whether the record is a profile
   plan RECORD OCTETS                 how a block of so many octets is cut: B, C, K and z
   encode RECORD Z PLACES OUTLEN      the places of a code block, with its parity bits

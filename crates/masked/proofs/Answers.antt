@@ -1,6 +1,6 @@
 -- What the calls answer, by their tests.
 use mathlib.Core.Path.{_≡_, refl, sym, ap, _∙_}
-use mathlib.Core.Bool.{Bool, true, false, cond, _&&_, _||_, or-assoc}
+use mathlib.Core.Bool.{Bool, true, false, cond, _&&_, _||_}
 use mathlib.Core.List.{List, [], _∷_, _++_}
 use Prim.Native.Nat.{ℕ, _+_, _-_, _^_, _≤_, _<_}
 use native.Mathlib.Omega.{arith}
@@ -11,6 +11,7 @@ use lib.Seq.{sets, sets-eq}
 use Rattle.bits.specs.Bits.{AreBits, someOver, valueOf}
 use Rattle.bits.specs.Numbers.{answered, whenDone}
 use Rattle.bits.proofs.Answers.{passed, when-done, when-refused}
+use Rattle.bits.proofs.Over.{over-append}
 use Rattle.bits.proofs.Ranges.{below-or}
 use Rattle.checksum.specs.Masked.{under, checksumUnder, attachedUnder, testsUnder}
 use Rattle.checksum.specs.Promises.{generator, otherWidth, bitsNumber, OfBits}
@@ -80,11 +81,6 @@ module _ (w m : ℕ) (bits out : List ℕ) (n : ℕ) (found : n ≡ appendNumber
       }
 
 -- ---- testing: a word's number from that of its front and the octets behind that
-
-over-append : (most : ℕ) (s t : List ℕ) → someOver most (s ++ t) ≡ someOver most s || someOver most t
-unfolding someOver
-over-append most [] t = refl
-over-append most (x ∷ s) t = ap (λ (b : Bool). ltb most x || b) (over-append most s t) ∙ sym (or-assoc (ltb most x) (someOver most s) (someOver most t))
 
 module _ (w : ℕ) (word : List ℕ) (a : ℕ) where
   parts-number : bitsNumber w word ≡ whenDone (bitsNumber w (take a word)) (cond (someOver 1 (drop a word)) 12 0) (bitsNumber w (take a word))

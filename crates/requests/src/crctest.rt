@@ -1,4 +1,4 @@
-// The request `crctest WIDTH MASK BITS`: whether the bits end in the checksum under a mask of those before it.
+// The request `crctest WIDTH MASK BITS`: whether the bits end in the checksum of those before it, under a mask.
 use crate::answers::Answer;
 use text::forms::WORDS;
 

@@ -102,7 +102,7 @@ mod tests {
         assert_eq!(answered("crc 8 10011"), "0 4");
         assert_eq!(answered("crc 16 10001"), "0 210");
         assert_eq!(answered("crc 24 11"), "0 c99f6");
-        // P4 and P5 with nearly all of the checksum, or all of it, taken away by the mask.
+        // P5 with nearly all of the checksum taken away by the mask, and P4 with all of it.
         assert_eq!(answered("crcm 8 9a 1"), "0 1");
         assert_eq!(answered("crcm 16 1021 1"), "0 0");
     }

@@ -200,7 +200,7 @@ mod tests {
         let lines = generated(Some("crctest"), 4, 2000);
         let (yes, no) = (answered(&lines, "0 1"), answered(&lines, "0 0"));
         let done = yes + no;
-        // Of the lines that are done, half are words that test and a quarter are others.
+        // Of the lines that are done more than half are words that test, and more than a quarter others.
         assert!(3 * done > 2000, "{done}");
         assert!(2 * yes > done && 4 * no > done, "{yes} {no}");
     }

@@ -180,7 +180,7 @@ fn turned(mut word: Asked, random: &mut Random) -> Asked {
 }
 
 /// A word that has at most the places of the checksum: any bits, or the last digits of the mask, which
-/// are the mask again if read as a number.
+/// read as a number are the mask again where those dropped are zeros.
 fn short(mut asked: Asked, random: &mut Random) -> Asked {
     let length = random.below(asked.places() + 1);
     if random.one_in(2) {

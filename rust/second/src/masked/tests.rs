@@ -44,7 +44,7 @@ fn masks(width: u64, random: &mut Random) -> Vec<u64> {
 
 #[test]
 fn worked_numbers() {
-    // Document 02, CR 9: P4 and P5 of document 01, 1021 and 9B, with every bit changed.
+    // P4 and P5 of document 01, 1021 and 9B, with every bit changed (document 02, CR 9).
     assert_eq!(checksum_under(16, 0xffff, &[1]), Ok(0xefde));
     assert_eq!(checksum_under(8, 0x1ff, &[1]), Ok(0x64));
     let word = bits_of_hex("f7ef00", 17);
