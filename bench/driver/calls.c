@@ -23,12 +23,19 @@ CALLS(product)
 CALLS(plain)
 CALLS(limit)
 crc_call plain_crc_bitwise;
+check_call product_check_by_plain;
+receive_call product_receive_by_plain;
 
 const struct side sides[SIDES] = {
     SIDE("product", product),
     SIDE("plain", plain),
     { .name = "plain*", .crc = plain_crc_bitwise },
     SIDE("limit", limit),
+};
+
+const struct side checkers[CHECKERS] = {
+    { .name = "by plain", .check = product_check_by_plain, .receive = product_receive_by_plain },
+    { .name = "by quick", .check = product_check, .receive = product_receive },
 };
 
 u8 output[OUTPUT];
@@ -50,6 +57,8 @@ int has(const struct side *side, const struct job *job) {
     switch (job->kind) {
     case CRC: return side->crc != 0;
     case SEND: return side->send != 0;
+    case CHECK: return side->check != 0;
+    case RECEIVE: return side->receive != 0;
     /* A side that leaves any other call out leaves them all out. */
     default: return side->judge != 0;
     }

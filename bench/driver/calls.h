@@ -42,6 +42,10 @@ struct side {
 enum { PRODUCT, PLAIN, PLAIN_STAR, LIMIT, SIDES };
 extern const struct side sides[SIDES];
 
+/* The product by each of its checkers: sides with the calls that check, and no others. */
+enum { BY_PLAIN, BY_QUICK, CHECKERS };
+extern const struct side checkers[CHECKERS];
+
 enum kind { CRC, CRC_OF_BITS, JUDGE, PLAN, MATCH, CODE, CHECK, SEND, RECEIVE, LOOKUP, HOSTED_SEND, HOSTED_RECEIVE };
 
 /* Inputs of a job that take turns where it is timed: a branch predictor learns one block by heart, and no user sends one block only. */
@@ -61,6 +65,7 @@ struct job {
     u8 *inputs[VARIANTS];
     size_t input_length;
     size_t room;
+    int is_for_both; /* whether both checkers are asked; the plain one is too slow to be asked on every job */
 };
 
 enum { MOST_JOBS = 128, OUTPUT = 70000 };
@@ -83,9 +88,11 @@ int is_asked(const struct job *job, const char *only);
 
 int same(const struct job *job);
 void compare_broken(long count);
+void compare_checkers(void);
 void print_times(int rounds, const char *only);
 /* For a program to read, a line for each side: job, side, nanoseconds, and what the product's time is over them. */
 void print_medians(int rounds, const char *only);
+void print_checkers(int rounds, const char *only);
 void mark_counts(const char *only);
 void mark_places(const char *name);
 void print_depths(const char *only);

@@ -178,6 +178,23 @@ static void add_shorter_checksums(void) {
     add_checksum(CRC, 8, 2048);
 }
 
+static void ask_both(const char *name) {
+    for (int k = 0; k < job_count; k++)
+        if (!strcmp(jobs[k].name, name)) {
+            jobs[k].is_for_both = 1;
+            return;
+        }
+    exit(3);
+}
+
+/* With a record in use, and with the widest, which has the largest word there is. */
+static void ask_both_checkers(void) {
+    ask_both("check 56 z81");
+    ask_both("check wide z81");
+    ask_both("receive 56 2048 exact");
+    ask_both("receive wide 2048 exact");
+}
+
 void make_jobs(const char *shelf) {
     read_shelf(shelf);
     add_checksum(CRC, 24, 2048);
@@ -201,4 +218,5 @@ void make_jobs(const char *shelf) {
     add_growing();
     /* At the end, so that the jobs before have the inputs that they had. */
     add_shorter_checksums();
+    ask_both_checkers();
 }

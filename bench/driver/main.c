@@ -1,5 +1,5 @@
 /* Puts the same calls to the product and to the baselines: driver SHELF same COUNT | time ROUNDS [JOB] | medians ROUNDS [JOB]
-   | count [JOB] | where JOB | stack [JOB] */
+   | checkers ROUNDS [JOB] | count [JOB] | where JOB | stack [JOB] */
 #include "calls.h"
 #include <stdio.h>
 #include <stdlib.h>
@@ -13,12 +13,15 @@ int main(int count, char **words) {
     for (int k = 0; k < job_count; k++)
         if (!same(&jobs[k]))
             return 1;
-    if (!strcmp(command, "same") && first)
+    if (!strcmp(command, "same") && first) {
         compare_broken(atol(first));
-    else if (!strcmp(command, "time") && first)
+        compare_checkers();
+    } else if (!strcmp(command, "time") && first)
         print_times(atoi(first), second);
     else if (!strcmp(command, "medians") && first)
         print_medians(atoi(first), second);
+    else if (!strcmp(command, "checkers") && first)
+        print_checkers(atoi(first), second);
     else if (!strcmp(command, "count"))
         mark_counts(first);
     else if (!strcmp(command, "where") && first)

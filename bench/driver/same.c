@@ -1,4 +1,4 @@
-/* Asserts that all sides answer and write the same, on the jobs and on broken copies of them. */
+/* Asserts that all sides answer and write the same, on the jobs and on broken copies of them, and that both checkers do. */
 #include "calls.h"
 #include <stdio.h>
 #include <stdlib.h>
@@ -13,23 +13,25 @@ static void say(const struct job *job, const struct side *side, uint64_t answer,
                (unsigned long long)due);
 }
 
-/* What stands behind the written octets is compared too. */
-int same(const struct job *job) {
+/* Whether all answer as the first does. What stands behind the written octets is compared too. */
+static int agree(const struct side *all, int count, const struct job *job) {
     memset(output, 7, sizeof output);
-    uint64_t due = run(&sides[PRODUCT], job);
+    uint64_t due = run(&all[0], job);
     memcpy(expected, output, sizeof output);
-    for (int i = PRODUCT + 1; i < SIDES; i++) {
-        if (!has(&sides[i], job))
+    for (int i = 1; i < count; i++) {
+        if (!has(&all[i], job))
             continue;
         memset(output, 7, sizeof output);
-        uint64_t answer = run(&sides[i], job);
+        uint64_t answer = run(&all[i], job);
         if (answer != due || memcmp(expected, output, sizeof output)) {
-            say(job, &sides[i], answer, due);
+            say(job, &all[i], answer, due);
             return 0;
         }
     }
     return 1;
 }
+
+int same(const struct job *job) { return agree(sides, SIDES, job); }
 
 enum { LONGER = 8 };
 
@@ -106,12 +108,19 @@ static int same_broken(const struct job *whole, long seen[NUMBERS]) {
     spoil_tenant(&job);
     spoil_number(&job);
     job.record = record, job.input = input, job.private = private, job.public = public;
-    int agree = same(&job);
+    int is_same = same(&job);
     uint64_t answer = run(&sides[PRODUCT], &job);
     if (answers_number(job.kind) && answer < NUMBERS)
         seen[answer]++;
     free(record), free(input), free(private), free(public);
-    return agree;
+    return is_same;
+}
+
+static void print_seen(const long seen[NUMBERS]) {
+    for (int number = 0; number < NUMBERS; number++)
+        if (seen[number])
+            printf(" %d:%ld", number, seen[number]);
+    printf("\n");
 }
 
 void compare_broken(long count) {
@@ -120,10 +129,36 @@ void compare_broken(long count) {
         differ += !same_broken(&jobs[drawn() % job_count], seen);
     printf("%d calls and %ld broken ones: %ld answered differently. Answered numbers, and how often (99: a word does not check):\n",
            job_count, count, differ);
-    for (int number = 0; number < NUMBERS; number++)
-        if (seen[number])
-            printf(" %d:%ld", number, seen[number]);
-    printf("\n");
+    print_seen(seen);
+    if (differ)
+        exit(1);
+}
+
+/* Whether the checkers agree on an input; the number is counted. */
+static int same_checked(struct job job, u8 *input, long seen[NUMBERS]) {
+    job.input = input;
+    int is_same = agree(checkers, CHECKERS, &job);
+    uint64_t answer = run(&checkers[BY_QUICK], &job);
+    if (answer < NUMBERS)
+        seen[answer]++;
+    return is_same;
+}
+
+/* On every input, and on each with one bit changed. */
+void compare_checkers(void) {
+    long seen[NUMBERS] = { 0 }, asked = 0, differ = 0;
+    for (int k = 0; k < job_count; k++)
+        for (int v = 0; v < VARIANTS && jobs[k].is_for_both; v++) {
+            u8 *broken = copied(jobs[k].inputs[v], jobs[k].input_length);
+            broken[drawn() % jobs[k].input_length] ^= 1;
+            differ += !same_checked(jobs[k], jobs[k].inputs[v], seen);
+            differ += !same_checked(jobs[k], broken, seen);
+            asked++;
+            free(broken);
+        }
+    printf("%ld calls and as many with one bit changed, by either checker: %ld answered differently. Answered numbers:\n",
+           asked, differ);
+    print_seen(seen);
     if (differ)
         exit(1);
 }

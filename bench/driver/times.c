@@ -14,12 +14,12 @@ static double now(void) {
     return t.tv_sec * 1e9 + t.tv_nsec;
 }
 
-/* Nanoseconds for one call, of so many with the inputs in turn. */
-static double timed(const struct side *side, const struct job *job, long calls) {
+/* Nanoseconds for one call, of so many with the inputs in turn, from the first or a later one on. */
+static double timed(const struct side *side, const struct job *job, long calls, long from) {
     struct job one = *job;
     double start = now();
     for (long k = 0; k < calls; k++) {
-        one.input = job->inputs[k % VARIANTS];
+        one.input = job->inputs[(from + k) % VARIANTS];
         sink += run(side, &one);
     }
     return (now() - start) / calls;
@@ -30,32 +30,38 @@ static int by_size(const void *a, const void *b) {
     return (x > y) - (x < y);
 }
 
-/* Of each side the time in each round, and what the product's is over it. */
+/* Of each side the time in each round, and what that of the first side is over it. */
 static double times[SIDES][MOST_ROUNDS], ratios[SIDES][MOST_ROUNDS];
 
-static void measure_round(const struct job *job, const long calls[SIDES], int round) {
+/* A call that fills its batch alone takes the next input in each round. */
+static void measure_round(const struct side *all, const struct job *job, const long calls[SIDES], int round) {
     for (int i = 0; i < SIDES; i++) {
         if (!calls[i])
             continue;
-        times[i][round] = timed(&sides[i], job, calls[i]);
-        ratios[i][round] = times[PRODUCT][round] / times[i][round];
+        times[i][round] = timed(&all[i], job, calls[i], calls[i] == 1 ? round : 0);
+        ratios[i][round] = times[0][round] / times[i][round];
     }
 }
 
 /* Fills `times` and `ratios`, and then orders them. */
-static void measure(const struct job *job, int rounds) {
+static void measure(const struct side *all, int count, const struct job *job, int rounds) {
     long calls[SIDES] = { 0 };
-    for (int i = 0; i < SIDES; i++)
-        if (has(&sides[i], job)) {
-            timed(&sides[i], job, VARIANTS);
-            calls[i] = BATCH / (timed(&sides[i], job, VARIANTS) + 1) + 1;
+    for (int i = 0; i < count; i++)
+        if (has(&all[i], job)) {
+            timed(&all[i], job, VARIANTS, 0);
+            calls[i] = BATCH / (timed(&all[i], job, VARIANTS, 0) + 1) + 1;
         }
     for (int r = 0; r < rounds; r++)
-        measure_round(job, calls, r);
+        measure_round(all, job, calls, r);
     for (int i = 0; i < SIDES; i++) {
         qsort(times[i], rounds, sizeof(double), by_size);
         qsort(ratios[i], rounds, sizeof(double), by_size);
     }
+}
+
+/* The distance between the quarters of the ratios to a side, in hundredths of their median. */
+static double spread(int side, int rounds) {
+    return 100 * (ratios[side][3 * rounds / 4] - ratios[side][rounds / 4]) / ratios[side][rounds / 2];
 }
 
 static void print_cell(const struct job *job, int side, const char *form, double value) {
@@ -71,8 +77,7 @@ static void print_row(const struct job *job, int rounds) {
         print_cell(job, i, times[i][rounds / 2] < 9.95 ? " %8.1f" : " %8.0f", times[i][rounds / 2]);
     for (int i = PLAIN; i < SIDES; i++)
         print_cell(job, i, " %8.2f", ratios[i][rounds / 2]);
-    double quarters = ratios[PLAIN][3 * rounds / 4] - ratios[PLAIN][rounds / 4];
-    printf(" %6.0f%%\n", 100 * quarters / ratios[PLAIN][rounds / 2]);
+    printf(" %6.0f%%\n", spread(PLAIN, rounds));
     fflush(stdout);
 }
 
@@ -82,12 +87,13 @@ static void print_medians_of(const struct job *job, int rounds) {
             printf("%s|%s|%.2f|%.4f\n", job->name, sides[i].name, times[i][rounds / 2], ratios[i][rounds / 2]);
 }
 
+static int possible(int rounds) { return rounds < 1 || rounds > MOST_ROUNDS ? 25 : rounds; }
+
 static void measure_asked(int rounds, const char *only, void print(const struct job *job, int rounds)) {
-    if (rounds < 1 || rounds > MOST_ROUNDS)
-        rounds = 25;
+    rounds = possible(rounds);
     for (int k = 0; k < job_count; k++)
         if (is_asked(&jobs[k], only)) {
-            measure(&jobs[k], rounds);
+            measure(sides, SIDES, &jobs[k], rounds);
             print(&jobs[k], rounds);
         }
 }
@@ -102,4 +108,28 @@ void print_times(int rounds, const char *only) {
         printf("  /%-6s", sides[i].name);
     printf(" spread\n");
     measure_asked(rounds, only, print_row);
+}
+
+/* The plain checker takes milliseconds where the quick one takes some thousandths of one. */
+static void print_checkers_row(const struct job *job, int rounds) {
+    printf("%-28s", job->name);
+    for (int i = 0; i < CHECKERS; i++) {
+        double milliseconds = times[i][rounds / 2] / 1e6;
+        printf(milliseconds < 0.995 ? " %8.5f" : " %8.2f", milliseconds);
+    }
+    printf(" %8.0f %6.0f%%\n", ratios[BY_QUICK][rounds / 2], spread(BY_QUICK, rounds));
+    fflush(stdout);
+}
+
+void print_checkers(int rounds, const char *only) {
+    rounds = possible(rounds);
+    printf("%-28s", "CPU time, milliseconds");
+    for (int i = 0; i < CHECKERS; i++)
+        printf(" %8s", checkers[i].name);
+    printf("  /%-6s spread\n", "quick");
+    for (int k = 0; k < job_count; k++)
+        if (jobs[k].is_for_both && is_asked(&jobs[k], only)) {
+            measure(checkers, CHECKERS, &jobs[k], rounds);
+            print_checkers_row(&jobs[k], rounds);
+        }
 }

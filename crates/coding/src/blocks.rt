@@ -1,5 +1,6 @@
 // Steps 3 to 6 of document 01 for one code block: its places, its parity bits, and its share of the radio bits.
 use bits::count::CodedBits;
+use checking::Checker;
 use cutting::Plan;
 ghost use mathlib.Core.Path.{_≡_};
 ghost use mathlib.Core.List.{_++_};
@@ -30,14 +31,14 @@ fn solve(profile: &[u8], plan: Plan, word: &mut [u8])
 }
 
 // Whether the word checks.
-fn is_even(profile: &[u8], plan: Plan, word: &[u8]) -> bool
+fn is_even(profile: &[u8], plan: Plan, word: &[u8], checker: Checker) -> bool
     requires { ⌜ SomePlan (now profile) plan × Fits (now profile) plan (now word) ⌝ }
     ensures { λ r. ⌜ r ≡ checksBy (now (profile .entry)) plan (now (word .entry)) ⌝ }
 {
     let rows = profile::inner::rows(profile);
     let columns = profile::inner::columns(profile);
     let table = profile::inner::table(profile, plan.index);
-    parity::inner::checks(table, rows, columns, plan.z, word)
+    checking::inner::checks_by(checker, table, rows, columns, plan.z, word)
 }
 
 // Lays a block's own bits and its filler into the word, and its parity bits behind them.
@@ -71,7 +72,14 @@ pub fn send_block(
 
 // Whether a stretch is what the block whose own bits stand at its beginning is sent as: equal copies, and all parity rows. Where it is, the
 // word holds the coded block, own bits first.
-pub fn is_sent_as(profile: &[u8], plan: Plan, s: &[u8], own: usize, word: &mut [u8]) -> bool
+pub fn is_sent_as(
+    profile: &[u8],
+    plan: Plan,
+    s: &[u8],
+    own: usize,
+    checker: Checker,
+    word: &mut [u8],
+) -> bool
     requires { ⌜ Stretch (now profile) plan (now s) own (now word) ⌝ }
     ensures { λ r. ⌜ Tested (now (profile .entry)) plan (now (s .entry)) own r (now (word .exit)) ⌝ }
 {
@@ -81,5 +89,5 @@ pub fn is_sent_as(profile: &[u8], plan: Plan, s: &[u8], own: usize, word: &mut [
         return false;
     }
     matching::inner::gather(s, own, places, word);
-    is_even(profile, plan, word)
+    is_even(profile, plan, word, checker)
 }

@@ -9,6 +9,7 @@ use bits::count::Terms;
 use bits::number::DONE;
 use bits::number::UNSENT;
 use bits::number::Written;
+use checking::Checker;
 ghost use mathlib.Core.Path.{_≡_};
 ghost use Prim.Native.Nat.{_≤_};
 ghost use lib.ListN.{length};
@@ -71,6 +72,7 @@ fn receive_through(
     octets: usize,
     terms: Terms,
     bits: &[u8],
+    checker: Checker,
     room: &mut [u8],
     block: &mut [u8],
     out: &mut [u8],
@@ -80,7 +82,7 @@ fn receive_through(
 {
     let plan = cutting::inner::plan_accepted(profile, octets);
     let b = plan.bits;
-    if !receiving::rebuild_bits(profile, plan, bits, terms, room) {
+    if !receiving::rebuild_bits(profile, plan, bits, terms, checker, room) {
         return Written {
             number: UNSENT,
             count: 0,
@@ -105,6 +107,7 @@ fn receive_accepted(
     octets: usize,
     terms: Terms,
     bits: &[u8],
+    checker: Checker,
     out: &mut [u8],
 ) -> Written
     requires { ⌜ Receivable (now profile) octets terms (now bits) × (octets ≤ length (now out)) ⌝ }
@@ -112,16 +115,32 @@ fn receive_accepted(
 {
     let mut room = [0u8; 16408];
     let mut block = [0u8; 2048];
-    receive_through(profile, octets, terms, bits, &mut room, &mut block, out)
+    receive_through(
+        profile,
+        octets,
+        terms,
+        bits,
+        checker,
+        &mut room,
+        &mut block,
+        out,
+    )
 }
 
-// Receives bits as a transport block of a bits: its number, and the count written.
-pub fn receive(profile: &[u8], a: usize, terms: Terms, bits: &[u8], out: &mut [u8]) -> Written
+// Receives bits as a transport block of a bits, by either checker: its number, and the count written.
+pub fn receive(
+    profile: &[u8],
+    a: usize,
+    terms: Terms,
+    bits: &[u8],
+    checker: Checker,
+    out: &mut [u8],
+) -> Written
     ensures { λ r. ⌜ Received (now (profile .entry)) a terms (now (bits .entry)) (now (out .entry)) r (now (out .exit)) ⌝ }
 {
     let number = inner::reception_number(profile, a, terms, bits, out.len());
     if number != DONE {
         return Written { number, count: 0 };
     }
-    receive_accepted(profile, a / 8, terms, bits, out)
+    receive_accepted(profile, a / 8, terms, bits, checker, out)
 }

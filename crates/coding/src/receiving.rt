@@ -3,6 +3,7 @@ use crate::blocks;
 use crate::inner;
 use bits::count::CodedBits;
 use bits::count::Terms;
+use checking::Checker;
 use cutting::Plan;
 ghost use Prim.Native.Nat.{_+_, _≤_};
 ghost use lib.ListN.{length};
@@ -16,6 +17,7 @@ fn rebuild(
     plan: Plan,
     bits: &[u8],
     terms: Terms,
+    checker: Checker,
     word: &mut [u8],
     room: &mut [u8],
 ) -> bool
@@ -31,7 +33,7 @@ fn rebuild(
     while r < c {
         let own = cutting::inner::own_bits(b, c, r);
         let e = inner::share_of(terms, g, c, r);
-        if !blocks::is_sent_as(profile, plan, &bits[at..at + e.0], own, word) {
+        if !blocks::is_sent_as(profile, plan, &bits[at..at + e.0], own, checker, word) {
             return false;
         }
         bits::inner::lay(word, 0, room, start, own);
@@ -43,11 +45,18 @@ fn rebuild(
 }
 
 // The same with room for one coded block of its own.
-pub fn rebuild_bits(profile: &[u8], plan: Plan, bits: &[u8], terms: Terms, room: &mut [u8]) -> bool
+pub fn rebuild_bits(
+    profile: &[u8],
+    plan: Plan,
+    bits: &[u8],
+    terms: Terms,
+    checker: Checker,
+    room: &mut [u8],
+) -> bool
     requires { ⌜ ReceivablePlan (now profile) terms (now bits) plan × (16408 ≤ length (now room)) ⌝ }
     ensures { λ r. ⌜ Rebuilt (now (profile .entry)) terms (now (bits .entry)) (plan .bits) r (now (room .exit)) ⌝ }
 {
     let n = blocks::size(profile, plan);
     let mut word = [0u8; 2592];
-    rebuild(profile, plan, bits, terms, &mut word[..n], room)
+    rebuild(profile, plan, bits, terms, checker, &mut word[..n], room)
 }

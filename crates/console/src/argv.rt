@@ -14,8 +14,9 @@ pub struct Words {
     pub help: bool,
     // Whether nothing stands behind the command, be it a word or an option.
     pub none: bool,
-    // Whether --text is given.
+    // Whether --text is given, and --plain.
     pub text: bool,
+    pub plain: bool,
 }
 
 pub fn all_words() -> Words {
@@ -24,6 +25,7 @@ pub fn all_words() -> Words {
         help: is_word(2, b"--help"),
         none: os::arg_count() <= 2,
         text: find(b"--text") < os::arg_count(),
+        plain: find(b"--plain") < os::arg_count(),
     }
 }
 
@@ -32,7 +34,7 @@ pub fn all_words() -> Words {
 fn width(word: &[u8]) -> usize
     ensures { λ r. ⌜ r ≤ 2 ⌝ }
 {
-    if list::has(b"--text\n", word) {
+    if list::has(b"--text\n--plain\n", word) {
         return 1;
     }
     // The first with a value comes with the first call that has one.

@@ -4,6 +4,7 @@ use bits::count::CodedBits;
 use bits::count::Terms;
 use bits::number::DONE;
 use bits::number::Written;
+use checking::Checker;
 use console::argv::Words;
 use console::files;
 use console::help;
@@ -188,7 +189,7 @@ fn receive<'a>(
     at: usize,
 ) -> usize {
     let mut block = files::block_room();
-    let received = calls::receive(private, public, asked, bits, &mut block);
+    let received = calls::receive(private, public, asked, bits, Checker::Quick, &mut block);
     let same = octets::same(octets::first(&block, received.count), message);
     tell_received(received.number, same, page, at)
 }

@@ -17,16 +17,18 @@ use Rattle.profile.proofs.Agreement.{judge-agree}
 use Rattle.cutting.specs.Promises.{planned}
 use Rattle.cutting.specs.declared.Plan.{Plan}
 use Rattle.cutting.proofs.Agreement.{planned-agree}
-use Rattle.parity.specs.Promises.{BlockCoded, WordChecked}
-use Rattle.parity.specs.declared.Verdict.{Verdict}
-use Rattle.parity.proofs.Agreement.{block-coded-agree, word-checked-agree}
+use Rattle.parity.specs.Promises.{BlockCoded}
+use Rattle.parity.proofs.Agreement.{block-coded-agree}
+use Rattle.checking.specs.Promises.{WordChecked, RowsSummed}
+use Rattle.checking.specs.declared.Verdict.{Verdict}
+use Rattle.checking.proofs.Agreement.{word-checked-agree, rows-summed-agree}
 use Rattle.matching.specs.Promises.{RateMatched}
 use Rattle.matching.proofs.Agreement.{rate-match-agree}
 use Rattle.coding.specs.Promises.{Sent, Received}
 use Rattle.coding.proofs.Agreement.{send-agree, receive-agree}
 use Rattle.shelf.specs.Lookup.{lookupNumber}
-use Rattle.shelf.specs.Promises.{LookedUp, HostedSent, HostedReceived}
-use Rattle.shelf.proofs.Agreement.{lookup-number-agree, lookup-agree, hosted-send-agree, hosted-receive-agree}
+use Rattle.shelf.specs.Promises.{LookedUp, HostedSent, HostedReceived, HostedChecked}
+use Rattle.shelf.proofs.Agreement.{lookup-number-agree, lookup-agree, hosted-send-agree, hosted-receive-agree, hosted-check-agree}
 use Rattle.advice.specs.Promises.{LeastRoom}
 use Rattle.advice.specs.declared.Least.{Least}
 use Rattle.advice.proofs.Agreement.{least-agree}
@@ -59,7 +61,7 @@ judge R a b = judge-agree R a b
 pub plan-block : (R : List ℕ) (octets : ℕ) {r r' : Plan} → r ≡ planned R octets → r' ≡ planned R octets → r ≡ r'
 plan-block R octets a b = planned-agree R octets a b
 
--- ---- parity::code_block, parity::check_word
+-- ---- parity::code_block, checking::check_word, checking::row_sums
 
 pub code-block : {R : List ℕ} {z : ℕ} {places out : List ℕ} {r r' : Written} {o o' : List ℕ}
     → BlockCoded R z places out r o → BlockCoded R z places out r' o' → (r ≡ r') × (o ≡ o')
@@ -67,6 +69,10 @@ code-block a b = block-coded-agree a b
 
 pub check-word : {R : List ℕ} {z : ℕ} {word : List ℕ} {r r' : Verdict} → WordChecked R z word r → WordChecked R z word r' → r ≡ r'
 check-word a b = word-checked-agree a b
+
+pub row-sums : {R : List ℕ} {z : ℕ} {word out : List ℕ} {r r' : Written} {o o' : List ℕ}
+    → RowsSummed R z word out r o → RowsSummed R z word out r' o' → (r ≡ r') × (o ≡ o')
+row-sums a b = rows-summed-agree a b
 
 -- ---- matching::rate_match, coding::send, coding::receive
 
@@ -87,7 +93,8 @@ receive a b = receive-agree a b
 pub least-bits : {R : List ℕ} {octets : ℕ} {terms : Terms} {r r' : Least} → LeastRoom R octets terms r → LeastRoom R octets terms r' → r ≡ r'
 least-bits a b = least-agree a b
 
--- ---- shelf::lookup_number, shelf::lookup (a stretch is its octets and its place), shelf::hosted_send, shelf::hosted_receive
+-- ---- shelf::lookup_number, shelf::lookup (a stretch is its octets and its place), shelf::hosted_send, shelf::hosted_receive,
+-- shelf::hosted_check
 
 pub lookup-number : (private public : List ℕ) (t p : ℕ) {r r' : ℕ} → r ≡ lookupNumber private public t p → r' ≡ lookupNumber private public t p → r ≡ r'
 lookup-number private public t p a b = lookup-number-agree private public t p a b
@@ -103,3 +110,7 @@ hosted-send a b = hosted-send-agree a b
 pub hosted-receive : {private public : List ℕ} {t p a : ℕ} {terms : Terms} {bits out : List ℕ} {r r' : Written} {o o' : List ℕ}
     → HostedReceived private public t p a terms bits out r o → HostedReceived private public t p a terms bits out r' o' → (r ≡ r') × (o ≡ o')
 hosted-receive a b = hosted-receive-agree a b
+
+pub hosted-check : {private public : List ℕ} {t p z : ℕ} {word : List ℕ} {r r' : Verdict}
+    → HostedChecked private public t p z word r → HostedChecked private public t p z word r' → r ≡ r'
+hosted-check a b = hosted-check-agree a b

@@ -13,6 +13,7 @@ use Rattle.bits.specs.declared.number.Written.{Written}
 use Rattle.bits.specs.declared.count.Terms.{Terms}
 use Rattle.bits.proofs.Answers.{Refusals, when-refused}
 use Rattle.bits.proofs.Listed.{length-list}
+use Rattle.bits.proofs.Ranges.{equal-or}
 use Rattle.checksum.specs.Promises.{generator, bitsConditions, bitsNumber, OfBits, octetsConditions, octetsNumber, OfOctets}
 use Rattle.checksum.specs.declared.Sum.{Sum}
 use Rattle.checksum.specs.Masked.{attachedUnder}
@@ -28,10 +29,12 @@ use Rattle.cutting.specs.Transport.{transport}
 use Rattle.cutting.specs.declared.Plan.{Plan}
 use Rattle.cutting.proofs.Plans.{plan-number}
 use Rattle.parity.specs.Coded.{coded}
-use Rattle.parity.specs.Promises.{tableFor, codeConditions, codeNumber, BlockCoded, checkConditions, checkNumber, WordChecked}
-use Rattle.parity.specs.declared.Verdict.{Verdict}
+use Rattle.parity.specs.Promises.{tableFor, codeConditions, codeNumber, BlockCoded}
 use Rattle.parity.proofs.Answers.{fits}
 use Rattle.parity.proofs.Coded.{coded-length}
+use Rattle.checking.specs.Promises.{checkConditions, checkNumber, WordChecked, sumsConditions, sumsNumber, RowsSummed}
+use Rattle.checking.specs.Sums.{rowSum, rowSums}
+use Rattle.checking.specs.declared.Verdict.{Verdict}
 use Rattle.matching.specs.Matching.{kept, matched}
 use Rattle.matching.specs.Promises.{matchConditions, matchNumber, RateMatched}
 use Rattle.coding.specs.Joining.{radioBits}
@@ -41,13 +44,13 @@ use Rattle.coding.proofs.Received.{nth-length}
 use Rattle.coding.proofs.Answers.{send-allocated}
 use Rattle.coding.proofs.RoundTrip.{sent-length}
 use Rattle.shelf.specs.Lookup.{lookupConditions, lookupNumber, lookupRecord, lookupPlace}
-use Rattle.shelf.specs.Promises.{LookedUp, HostedSent, HostedReceived}
+use Rattle.shelf.specs.Promises.{LookedUp, HostedSent, HostedReceived, HostedChecked}
 use Rattle.advice.specs.Promises.{leastConditions, leastNumber, LeastRoom}
 use Rattle.advice.specs.declared.Least.{Least}
 use Rattle.demands.specs.Numbers.{NoneHolds, Answers}
 use Rattle.demands.specs.Outputs.{Confined, Alike}
 use Rattle.demands.proofs.Order.{answers}
-use Rattle.demands.proofs.Hosted.{hosted-answers, hosted-confined, hosted-alike}
+use Rattle.demands.proofs.Hosted.{looked-answers, hosted-answers, hosted-confined, hosted-alike}
 use Rattle.demands.proofs.Outputs as outputs
 
 -- ---- "refuses with the number that document 01 gives, tested in its order": each call answers the first number of its list whose condition holds; the
@@ -204,6 +207,35 @@ pub code-block-alike : {R : List ℕ} {z : ℕ} {places out : List ℕ} {r : Wri
     → BlockCoded R z places out r o → BlockCoded R z places other s u → Alike r o s u
 code-block-alike {R} {z} {places} e a b = outputs.alike (code-fits R z places) e (code-writes a) (code-writes b)
 
+-- checking::row_sums
+module _ (R : List ℕ) (z : ℕ) (word : List ℕ) where
+  sums-answers : (room : ℕ) {r : ℕ} → r ≡ sumsNumber R z word room → Answers r (sumsConditions R z word room)
+  unfolding sumsNumber Refusals
+  sums-answers room q = answers (sumsConditions R z word room) tt q
+
+  sums-fits : outputs.Fitting (sumsNumber R z word) (rows R * z) (rowSums (tableFor R z) (rows R) (columns R) z word)
+  unfolding NoneHolds rowSums
+  sums-fits =
+      record {
+        size = λ room e. length-list (rows R * z) (rowSum (tableFor R z) (columns R) z word);
+        room = λ room e. let h = sums-answers room (sym e) .only-done refl in ltb-false room (rows R * z) (h .1 .1 .1 .0);
+      }
+
+sums-writes : {R : List ℕ} {z : ℕ} {word out : List ℕ} {r : Written} {o : List ℕ} → RowsSummed R z word out r o
+    → outputs.Writes (sumsNumber R z word) (rows R * z) (rowSums (tableFor R z) (rows R) (columns R) z word) out r o
+sums-writes a = record { number = a .number; count = a .count; output = a .output }
+
+pub row-sums-number : {R : List ℕ} {z : ℕ} {word out : List ℕ} {r : Written} {o : List ℕ}
+    → RowsSummed R z word out r o → Answers (r .number) (sumsConditions R z word (length out))
+row-sums-number {R} {z} {word} {out} a = sums-answers R z word (length out) (a .number)
+
+pub row-sums-confined : {R : List ℕ} {z : ℕ} {word out : List ℕ} {r : Written} {o : List ℕ} → RowsSummed R z word out r o → Confined out r o
+row-sums-confined {R} {z} {word} a = outputs.confined (sums-fits R z word) (sums-writes a)
+
+pub row-sums-alike : {R : List ℕ} {z : ℕ} {word out : List ℕ} {r : Written} {o other : List ℕ} {s : Written} {u : List ℕ} → length out ≡ length other
+    → RowsSummed R z word out r o → RowsSummed R z word other s u → Alike r o s u
+row-sums-alike {R} {z} {word} e a b = outputs.alike (sums-fits R z word) e (sums-writes a) (sums-writes b)
+
 -- matching::rate_match
 match-fits : (places : List ℕ) (e : ℕ) → outputs.Fitting (matchNumber places e) e (matched places e)
 unfolding NoneHolds matched
@@ -315,3 +347,18 @@ pub hosted-receive-alike : {private public : List ℕ} {t p a : ℕ} {terms : Te
     → length out ≡ length other → HostedReceived private public t p a terms bits out r o
     → HostedReceived private public t p a terms bits other s u → Alike r o s u
 hosted-receive-alike e h k = hosted-alike h k (λ a b. receive-alike e a b)
+
+-- shelf::hosted_check
+pub hosted-check-number : {private public : List ℕ} {t p z : ℕ} {word : List ℕ} {r : Verdict} → HostedChecked private public t p z word r
+    → Answers (r .number) (lookupConditions private public t p ++ checkConditions (lookupRecord private public t p) z word)
+unfolding checkNumber Refusals
+hosted-check-number {private} {public} {t} {p} {z} {word} h =
+    looked-answers private public t p (checkConditions (lookupRecord private public t p) z word) tt (λ y. h .found y .number)
+    (λ n. ap (λ (v : Verdict). v .number) (h .refused n))
+
+pub hosted-check-refused : {private public : List ℕ} {t p z : ℕ} {word : List ℕ} {r : Verdict} → HostedChecked private public t p z word r
+    → (r .number ≡ 0 → ⊥) → r .checks ≡ false
+hosted-check-refused {private} {public} {t} {p} h n =
+    equal-or (lookupNumber private public t p) 0
+    (λ z. check-word-refused (h .found z) n)
+    (λ m. ap (λ (v : Verdict). v .checks) (h .refused m))

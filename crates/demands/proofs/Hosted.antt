@@ -30,18 +30,23 @@ planned-found private public t p octets e =
     equal-or (lookupNumber private public t p) 0 (λ z. z)
     (λ n. absurd (none-planned octets (ap (λ (l : List ℕ). planNumber l octets) (sym (when-refused (lookupNumber private public t p) _ [] n)) ∙ e)))
 
+-- lookup's number where it refuses, and else that of the call on the record: lookup's numbers, and then the call's
+pub looked-answers : (private public : List ℕ) (t p : ℕ) (last : List (ℕ × Bool)) → Refusals (lookupConditions private public t p ++ last) → {number : ℕ}
+    → (lookupNumber private public t p ≡ 0 → number ≡ answered last)
+    → ((lookupNumber private public t p ≡ 0 → ⊥) → number ≡ lookupNumber private public t p)
+    → Answers number (lookupConditions private public t p ++ last)
+unfolding lookupNumber Refusals
+looked-answers private public t p last some found refused =
+    let first = lookupConditions private public t p in
+    answers (first ++ last) some
+    (equal-or (answered first) 0 (λ z. found z ∙ sym (last-part first last tt z)) (λ n. refused n ∙ sym (first-part first last n)))
+
 module _ {private public : List ℕ} {t p : ℕ} {promised : List ℕ → Type 0} {out : List ℕ} {r : Written} {o : List ℕ}
     (h : Hosted private public t p promised out r o) where
-  -- lookup's numbers, and then those of the call on the record
   pub hosted-answers : (last : List (ℕ × Bool)) → Refusals (lookupConditions private public t p ++ last)
       → (promised (lookupRecord private public t p) → r .number ≡ answered last) → Answers (r .number) (lookupConditions private public t p ++ last)
-  unfolding lookupNumber Refusals
   hosted-answers last some is =
-      let first = lookupConditions private public t p in
-      answers (first ++ last) some
-      (equal-or (answered first) 0
-      (λ z. is (h .found z) ∙ sym (last-part first last tt z))
-      (λ n. ap (λ (w : Written). w .number) (h .refused n .0) ∙ sym (first-part first last n)))
+      looked-answers private public t p last some (λ z. is (h .found z)) (λ n. ap (λ (w : Written). w .number) (h .refused n .0))
 
   pub hosted-confined : (promised (lookupRecord private public t p) → Confined out r o) → Confined out r o
   hosted-confined confined =

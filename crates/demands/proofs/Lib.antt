@@ -11,4 +11,5 @@ pub mod Demand3
 pub mod Worked
 pub mod Fifteen
 pub mod Masked
+pub mod Checkers
 pub mod Examples

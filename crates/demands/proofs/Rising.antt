@@ -1,4 +1,4 @@
--- "The lowest number that applies is answered", by every call of document 01 and those of CR 9: their lists rise, so the first number whose condition holds
+-- "The lowest number that applies is answered", by every call of document 01 and those of CR 9 and CR 4: their lists rise, so the first number whose condition holds
 -- is the lowest.
 use mathlib.Core.Path.{_≡_, refl}
 use mathlib.Core.List.{List, _++_}
@@ -13,15 +13,16 @@ use Rattle.masked.specs.declared.Tested.{Tested}
 use Rattle.profile.specs.Promises.{judgeConditions, judged}
 use Rattle.cutting.specs.Promises.{planConditions, planned}
 use Rattle.cutting.specs.declared.Plan.{Plan}
-use Rattle.parity.specs.Promises.{codeConditions, BlockCoded, checkConditions, WordChecked}
-use Rattle.parity.specs.declared.Verdict.{Verdict}
+use Rattle.parity.specs.Promises.{codeConditions, BlockCoded}
+use Rattle.checking.specs.Promises.{checkConditions, WordChecked, sumsConditions, RowsSummed}
+use Rattle.checking.specs.declared.Verdict.{Verdict}
 use Rattle.matching.specs.Promises.{matchConditions, RateMatched}
 use Rattle.coding.specs.Promises.{sendConditions, Sent, receiveConditions, Received}
 use Rattle.shelf.specs.Lookup.{lookupConditions, lookupNumber, lookupRecord}
-use Rattle.shelf.specs.Promises.{HostedSent, HostedReceived}
+use Rattle.shelf.specs.Promises.{HostedSent, HostedReceived, HostedChecked}
 use Rattle.demands.specs.Numbers.{Lowest}
 use Rattle.demands.proofs.Lowest.{rising, lowest}
-use Rattle.demands.proofs.Demand1.{of-bits-number, of-octets-number, sum-under-number, append-number, test-number, judge-number, plan-block-number, code-block-number, check-word-number, rate-match-number, send-number, receive-number, lookup-number-number, hosted-send-number, hosted-receive-number}
+use Rattle.demands.proofs.Demand1.{of-bits-number, of-octets-number, sum-under-number, append-number, test-number, judge-number, plan-block-number, code-block-number, check-word-number, row-sums-number, rate-match-number, send-number, receive-number, lookup-number-number, hosted-send-number, hosted-receive-number, hosted-check-number}
 
 pub of-bits-lowest : {w : ℕ} {bits : List ℕ} {r : Sum} → OfBits w bits r
     → Lowest (r .number) (bitsConditions w bits)
@@ -68,6 +69,11 @@ pub check-word-lowest : {R : List ℕ} {z : ℕ} {word : List ℕ} {r : Verdict}
 unfolding rising
 check-word-lowest {R} {z} {word} a = lowest (checkConditions R z word) refl (check-word-number a)
 
+pub row-sums-lowest : {R : List ℕ} {z : ℕ} {word out : List ℕ} {r : Written} {o : List ℕ} → RowsSummed R z word out r o
+    → Lowest (r .number) (sumsConditions R z word (length out))
+unfolding rising
+row-sums-lowest {R} {z} {word} {out} a = lowest (sumsConditions R z word (length out)) refl (row-sums-number a)
+
 pub rate-match-lowest : {places : List ℕ} {e : ℕ} {out : List ℕ} {r : Written} {o : List ℕ} → RateMatched places e out r o
     → Lowest (r .number) (matchConditions places e (length out))
 unfolding rising
@@ -97,3 +103,8 @@ pub hosted-receive-lowest : {private public : List ℕ} {t p a : ℕ} {terms : T
     → Lowest (r .number) (lookupConditions private public t p ++ receiveConditions (lookupRecord private public t p) a terms bits (length out))
 unfolding rising
 hosted-receive-lowest {private} {public} {t} {p} {a} {terms} {bits} {out} h = lowest (lookupConditions private public t p ++ receiveConditions (lookupRecord private public t p) a terms bits (length out)) refl (hosted-receive-number h)
+
+pub hosted-check-lowest : {private public : List ℕ} {t p z : ℕ} {word : List ℕ} {r : Verdict} → HostedChecked private public t p z word r
+    → Lowest (r .number) (lookupConditions private public t p ++ checkConditions (lookupRecord private public t p) z word)
+unfolding rising
+hosted-check-lowest {private} {public} {t} {p} {z} {word} h = lowest (lookupConditions private public t p ++ checkConditions (lookupRecord private public t p) z word) refl (hosted-check-number h)

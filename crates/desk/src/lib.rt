@@ -7,6 +7,7 @@ mod replay;
 use console::argv;
 use console::argv::Words;
 use console::list;
+use hosted::check;
 use hosted::lookup;
 use hosted::receive;
 use hosted::send;
@@ -20,6 +21,7 @@ pub fn run() -> i32 {
     let n = os::arg(1, &mut word);
     let names = b"send
 receive
+check
 lookup
 plan
 day
@@ -36,12 +38,13 @@ fn command(line: usize, words: Words) -> i32 {
     match line {
         0 => send::run(words),
         1 => receive::run(words),
-        2 => lookup::run(words),
-        3 => plan::run(words),
-        4 => day::run(words),
-        5 => numbers::run(words),
-        6 => replay::run(words),
-        7 | 8 => help::run(words),
+        2 => check::run(words),
+        3 => lookup::run(words),
+        4 => plan::run(words),
+        5 => day::run(words),
+        6 => numbers::run(words),
+        7 => replay::run(words),
+        8 | 9 => help::run(words),
         _ => help::unknown(),
     }
 }

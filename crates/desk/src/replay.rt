@@ -22,14 +22,17 @@ Reads requests, one to a line, and writes an answer to each. Requests, and what 
   plan RECORD OCTETS                 how a block of so many octets is cut: B, C, K and z
   encode RECORD Z PLACES OUTLEN      the places of a code block, with its parity bits
   check RECORD Z BITS                1 if the bits are a word that checks, else 0
+  sums RECORD Z BITS OUTLEN          what each row of the spread-out matrix sums to over the bits, modulo two
   rate E PLACES OUTLEN               the bits that are sent of a coded block
   send RECORD BLOCK NL QM G OUTLEN   the bits that are sent of a block
   recv RECORD A NL QM BITS OUTLEN    the block that was sent as these bits
   lookup SHELVES TENANT PROFILE      which shelf has the record, where it starts and its length
   hsend SHELVES TENANT PROFILE ..    as send, with the record that the tenant is given
   hrecv SHELVES TENANT PROFILE ..    as recv, with the record that the tenant is given
+  hcheck SHELVES TENANT PROFILE ..   as check, with the record that the tenant is given
 
-SHELVES are two words, PRIVATE and PUBLIC; behind PROFILE the words of send and recv behind RECORD.
+SHELVES are two words, PRIVATE and PUBLIC; behind PROFILE the words of send, recv and check behind RECORD.
+check, recv, hrecv and hcheck may end in by=quick or by=plain: which checker is asked, quick where nothing is said.
 
 docs/REQUESTS.md describes requests, their words and the answers.
 ",

@@ -3,6 +3,7 @@ use crate::asked::Parameters;
 use crate::asked::eight_times;
 use advice::Least;
 use bits::number::Written;
+use checking::Checker;
 ghost use Prim.Native.Nat.{_≤_};
 
 pub fn send<'a>(
@@ -24,11 +25,20 @@ pub fn send<'a>(
     )
 }
 
+// The checker that is asked for with --plain, or without it.
+pub fn checker(plain: bool) -> Checker {
+    if plain {
+        return Checker::Plain;
+    }
+    Checker::Quick
+}
+
 pub fn receive<'a>(
     private: &'a [u8],
     public: &'a [u8],
     asked: Parameters,
     bits: &[u8],
+    checker: Checker,
     block: &mut [u8],
 ) -> Written {
     shelf::hosted_receive(
@@ -39,6 +49,7 @@ pub fn receive<'a>(
         eight_times(asked.octets),
         asked.terms,
         bits,
+        checker,
         block,
     )
 }

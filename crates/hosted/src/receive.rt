@@ -5,6 +5,7 @@ use crate::calls;
 use crate::shelves;
 use crate::shelves::Shelves;
 use bits::number::DONE;
+use checking::Checker;
 use console::argv;
 use console::argv::Words;
 use console::files;
@@ -16,8 +17,11 @@ pub fn run(words: Words) -> i32 {
     if words.help {
         return say(words, b"");
     }
-    if argv::has_other(b"--text\n") {
-        return say(words, b"this command takes no option but --text");
+    if argv::has_other(b"--plain\n--text\n") {
+        return say(
+            words,
+            b"this command takes no options but --plain and --text",
+        );
     }
     if words.count != 7 {
         return say(words, b"this command takes seven words");
@@ -26,14 +30,14 @@ pub fn run(words: Words) -> i32 {
     if asked.bad {
         return say(words, b"");
     }
-    read(words.text, asked)
+    read(words, asked)
 }
 
 fn say(words: Words, why: &[u8]) -> i32 {
     help::say(
         words.help,
         why,
-        b"usage: kuambyte receive PRIVATE PUBLIC TENANT PROFILE OCTETS LAYERS ORDER [--text] < bits > block
+        b"usage: kuambyte receive PRIVATE PUBLIC TENANT PROFILE OCTETS LAYERS ORDER [--plain] [--text] < bits > block
 
 Reads the bits that were sent of a transport block of OCTETS octets and writes the block. How many bits there are is G.
 
@@ -42,34 +46,42 @@ Reads the bits that were sent of a transport block of OCTETS octets and writes t
   OCTETS            A/8, the octets of the block: 1 to 2048
   LAYERS            N_L, 1 to 4
   ORDER             Q_m, the bits of a symbol: 2, 4 or 6
+  --plain           ask the plain parity checker, which goes through the matrix element by element; it says the same
   --text            read bits as characters 0 and 1, line ends skipped, not as octets 0 and 1
 ",
     )
 }
 
-fn read(text: bool, asked: Parameters) -> i32 {
+fn read(words: Words, asked: Parameters) -> i32 {
     let mut store = shelves::room();
     let found = shelves::named(&mut store);
     if found.failed {
         return status::FAILED;
     }
-    read_bits(text, asked, &store, found)
+    read_bits(words, asked, &store, found)
 }
 
-fn read_bits(text: bool, asked: Parameters, store: &[u8], found: Shelves) -> i32 {
+fn read_bits(words: Words, asked: Parameters, store: &[u8], found: Shelves) -> i32 {
     let mut bits = files::bits_room();
-    let input = files::input(text, &mut bits);
+    let input = files::input(words.text, &mut bits);
     if input.failed {
         return status::FAILED;
     }
-    answer(asked, store, found, octets::first(&bits, input.count))
+    let checker = calls::checker(words.plain);
+    answer(
+        asked,
+        checker,
+        store,
+        found,
+        octets::first(&bits, input.count),
+    )
 }
 
-fn answer(asked: Parameters, store: &[u8], found: Shelves, bits: &[u8]) -> i32 {
+fn answer(asked: Parameters, checker: Checker, store: &[u8], found: Shelves, bits: &[u8]) -> i32 {
     let private = shelves::private(store, found);
     let public = shelves::public(store, found);
     let mut block = files::block_room();
-    let received = calls::receive(private, public, asked, bits, &mut block);
+    let received = calls::receive(private, public, asked, bits, checker, &mut block);
     if received.number != DONE {
         let given = asked::with_bits(asked, bits.len());
         return shelves::refuse(received.number, given, store, found);

@@ -13,7 +13,11 @@ use text::octets;
 pub fn write(number: u32, record: &[u8], asked: Parameters) -> i32 {
     let mut line = io::buffer();
     let n = put(number, record, asked, &mut line);
-    io::write_all(STDERR_FILENO, octets::first(&line, n));
+    say(number, octets::first(&line, n))
+}
+
+pub fn say(number: u32, line: &[u8]) -> i32 {
+    io::write_all(STDERR_FILENO, line);
     meanings::exit_status(number)
 }
 

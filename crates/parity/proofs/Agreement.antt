@@ -1,24 +1,12 @@
--- The promises agree: two answers, and two outputs, that meet one for the same input are equal.
-use mathlib.Core.Path.{_≡_, sym, ap₂, _∙_}
-use mathlib.Core.Bool.{Bool}
+-- The promise agrees: two answers, and two outputs, that meet it for the same input are equal.
+use mathlib.Core.Path.{_≡_, sym, _∙_}
 use mathlib.Core.List.{List}
 use Prim.Native.Nat.{ℕ}
 use Rattle.bits.specs.declared.number.Written.{Written}
 use Rattle.bits.proofs.Written.{same-written}
-use Rattle.parity.specs.Promises.{BlockCoded, WordChecked}
-use Rattle.parity.specs.declared.Verdict.{Verdict}
-
-verdict : ℕ → Bool → Verdict
-verdict n b = record { number = n; checks = b }
-
-same-verdict : (a b : Verdict) → a .number ≡ b .number → a .checks ≡ b .checks → a ≡ b
-unfolding verdict
-same-verdict a b p q = ap₂ verdict p q
+use Rattle.parity.specs.Promises.{BlockCoded}
 
 pub block-coded-agree : {R : List ℕ} {z : ℕ} {places out : List ℕ} {r r' : Written} {u u' : List ℕ}
     → BlockCoded R z places out r u → BlockCoded R z places out r' u' → (r ≡ r') × (u ≡ u')
 block-coded-agree {r = r} {r' = r'} a b =
     (same-written r r' (a .number ∙ sym (b .number)) (a .count ∙ sym (b .count)), a .output ∙ sym (b .output))
-
-pub word-checked-agree : {R : List ℕ} {z : ℕ} {word : List ℕ} {r r' : Verdict} → WordChecked R z word r → WordChecked R z word r' → r ≡ r'
-word-checked-agree {r = r} {r' = r'} a b = same-verdict r r' (a .number ∙ sym (b .number)) (a .checks ∙ sym (b .checks))

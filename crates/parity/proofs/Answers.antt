@@ -1,4 +1,4 @@
--- What the public calls answer, by their tests.
+-- What the public call answers, by its tests.
 use mathlib.Core.Path.{_≡_, refl, sym, ap, _∙_}
 use mathlib.Core.Bool.{Bool, true, false, not, _||_}
 use mathlib.Core.List.{List, [], _∷_, _++_}
@@ -15,9 +15,8 @@ use Rattle.bits.proofs.Ranges.{equal-or, first-some, first-none}
 use Rattle.profile.specs.Record.{kb, t, z, rows, columns}
 use Rattle.profile.specs.Promises.{judgeConditions, judged}
 use Rattle.profile.proofs.Answers.{judged-first, judged-passed}
-use Rattle.parity.specs.Matrix.{checks}
 use Rattle.parity.specs.Coded.{coded}
-use Rattle.parity.specs.Promises.{hasSize, tableFor, unfit, codeNumber, BlockCoded, checkNumber, WordChecked}
+use Rattle.parity.specs.Promises.{hasSize, tableFor, unfit, codeNumber, BlockCoded}
 use Rattle.parity.specs.steps.Gate.{Taken}
 
 -- ---- the sizes of a record
@@ -61,7 +60,7 @@ module _ (R : List ℕ) (z' : ℕ) where
 
 -- ---- 5 and 6 as the profile is judged, then the others
 
-done-first : (R : List ℕ) (rest : List (ℕ × Bool)) → answered (judgeConditions R ++ rest) ≡ 0 → (judged R ≡ 0) × (answered rest ≡ 0)
+pub done-first : (R : List ℕ) (rest : List (ℕ × Bool)) → answered (judgeConditions R ++ rest) ≡ 0 → (judged R ≡ 0) × (answered rest ≡ 0)
 done-first R rest e =
     equal-or (judged R) 0 (λ q. (q, sym (judged-passed R rest q) ∙ e)) (λ n. absurd (n (sym (judged-first R rest n) ∙ e)))
 
@@ -127,46 +126,3 @@ module _ (R : List ℕ) (z' : ℕ) (places out : List ℕ) where
   coded-done n e h count p out' q =
       let done : codeNumber R z' places (length out) ≡ 0 = sym e ∙ h in
       record { number = e; count = p ∙ sym (when-done _ (columns R * z') 0 done); output = q ∙ sym (when-done _ _ out done) }
-
--- ---- checking a word
-
-module _ (R : List ℕ) (z' : ℕ) (word : List ℕ) where
-  abbrev tests : List (ℕ × Bool)
-  tests = (8, unfit R z' (columns R) word) ∷ (12, someOver 1 word) ∷ []
-
-  module _ (j : ℕ) (found : j ≡ judged R) where
-    pub word-judged : (j ≡ 0 → ⊥) → j ≡ checkNumber R z' word
-    unfolding checkNumber
-    word-judged h = found ∙ sym (judged-first R tests (λ q. h (found ∙ q)))
-
-    module _ (done : j ≡ 0) (c : ℕ) (c-is : c ≡ columns R) (u : Bool) (fit : u ≡ unfit R z' c word) where
-      fit-word : {b : Bool} → u ≡ b → unfit R z' (columns R) word ≡ b
-      fit-word e = ap (λ (x : ℕ). unfit R z' x word) (sym c-is) ∙ sym fit ∙ e
-
-      pub word-8 : u ≡ true → 8 ≡ checkNumber R z' word
-      unfolding checkNumber answered
-      word-8 e = sym (judged-passed R tests (sym found ∙ done) ∙ rw (fit-word e))
-
-      module _ (e : u ≡ false) (o : Bool) (over : o ≡ someOver 1 word) where
-        pub word-12 : o ≡ true → 12 ≡ checkNumber R z' word
-        unfolding checkNumber answered
-        word-12 q = sym (judged-passed R tests (sym found ∙ done) ∙ rw (fit-word e, sym over ∙ q))
-
-        pub word-0 : o ≡ false → 0 ≡ checkNumber R z' word
-        unfolding checkNumber answered
-        word-0 q = sym (judged-passed R tests (sym found ∙ done) ∙ rw (fit-word e, sym over ∙ q))
-
-  pub word-taken : checkNumber R z' word ≡ 0 → (judged R ≡ 0) × (hasSize R z' ≡ true) × (length word ≡ columns R * z')
-  unfolding checkNumber
-  word-taken e =
-      let first = done-first R tests e in
-      let eight = passed 8 _ (unfit R z' (columns R) word) (lit< tt) (first .1) in
-      let fit = fits R z' (columns R) word (eight .0) in
-      (first .0, fit .0, fit .1)
-
-  pub checked-refused : (n : ℕ) → n ≡ checkNumber R z' word → (n ≡ 0 → ⊥) → WordChecked R z' word (record { number = n; checks = false })
-  checked-refused n e h = record { number = e; checks = sym (when-refused (checkNumber R z' word) _ false (λ q. h (e ∙ q))) }
-
-  pub checked-done : (n : ℕ) → n ≡ checkNumber R z' word → n ≡ 0 → (b : Bool) → b ≡ checks (tableFor R z') (rows R) (columns R) z' word
-      → WordChecked R z' word (record { number = n; checks = b })
-  checked-done n e h b q = record { number = e; checks = q ∙ sym (when-done (checkNumber R z' word) _ false (sym e ∙ h)) }

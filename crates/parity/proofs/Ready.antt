@@ -98,9 +98,6 @@ unfolding tableFor
 table-read R z' i T e q = e ∙ ap (table R) q
 
 module _ (R : List ℕ) (z' : ℕ) (T : List ℕ) (n c : ℕ) (table-is : T ≡ tableFor R z') (c-is : c ≡ columns R) where
-  pub check-read : n ≡ rows R → (w : List ℕ) {r : Bool} → r ≡ checks T n c z' w → r ≡ checks (tableFor R z') (rows R) (columns R) z' w
-  check-read n-is w e = rw (table-is, n-is, c-is) at e
-
   -- a word that was solved behind the places is their coded block
   pub coded-read : (k : ℕ) → k ≡ kb R → n ≡ m R → (places : List ℕ) → Taken R z' places → (w : List ℕ) → Solution T k n c z' places w
       → w ≡ coded (tableFor R z') (rows R) (columns R) z' places

@@ -1,6 +1,6 @@
--- What the public calls promise, for every record R, every z and all octets.
+-- What the public call promises, for every record R, every z and all octets.
 use mathlib.Core.Path.{_≡_}
-use mathlib.Core.Bool.{Bool, false, not, _||_}
+use mathlib.Core.Bool.{Bool, not, _||_}
 use mathlib.Core.List.{List, [], _∷_, _++_}
 use Prim.Native.Nat.{ℕ, _*_}
 use lib.Dec.{eqb, ltb}
@@ -11,9 +11,7 @@ use Rattle.bits.specs.Ranges.{anyBelow, firstBelow}
 use Rattle.bits.specs.declared.number.Written.{Written}
 use Rattle.profile.specs.Record.{kb, t, z, rows, columns, table}
 use Rattle.profile.specs.Promises.{judgeConditions}
-use Rattle.parity.specs.Matrix.{checks}
 use Rattle.parity.specs.Coded.{coded}
-use Rattle.parity.specs.declared.Verdict.{Verdict}
 
 -- the record has the size z'; its table
 unfoldable pub hasSize : List ℕ → ℕ → Bool
@@ -40,16 +38,3 @@ pub record BlockCoded (R : List ℕ) (z' : ℕ) (places out : List ℕ) (r : Wri
   pub number : r .number ≡ codeNumber R z' places (length out)
   pub count : r .count ≡ whenDone (codeNumber R z' places (length out)) (columns R * z') 0
   pub output : out' ≡ whenDone (codeNumber R z' places (length out)) (coded (tableFor R z') (rows R) (columns R) z' places ++ drop (columns R * z') out) out
-
--- ---- checking one word of bits
-
--- "5 and 6 for a profile", 8, 12 "for any octet over 1 where single bits are taken"
-abbrev pub checkConditions : List ℕ → ℕ → List ℕ → List (ℕ × Bool)
-checkConditions R z' word = judgeConditions R ++ (8, unfit R z' (columns R) word) ∷ (12, someOver 1 word) ∷ []
-
-unfoldable pub checkNumber : List ℕ → ℕ → List ℕ → ℕ
-checkNumber R z' word = answered (checkConditions R z' word)
-
-pub record WordChecked (R : List ℕ) (z' : ℕ) (word : List ℕ) (r : Verdict) : Type 0 where
-  pub number : r .number ≡ checkNumber R z' word
-  pub checks : r .checks ≡ whenDone (checkNumber R z' word) (checks (tableFor R z') (rows R) (columns R) z' word) false

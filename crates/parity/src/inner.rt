@@ -2,11 +2,25 @@
 use crate::stairs;
 use crate::sums;
 ghost use mathlib.Core.Path.{_≡_};
-ghost use Prim.Native.Nat.{_*_};
+ghost use Prim.Native.Nat.{_*_, _≤_};
 ghost use lib.ListN.{length};
+ghost use Rattle.profile.specs.Promises.{judged};
 ghost use Rattle.parity.specs.Matrix.{checks};
+ghost use Rattle.parity.specs.Promises.{unfit};
 ghost use Rattle.parity.specs.steps.Grouped.{Shape, Codable, Solution};
 ghost use Rattle.parity.specs.steps.Runs.{Sums};
+
+// Whether z is no size of the profile, or w is not n groups of z places. The product is made only of a z that is a size.
+pub fn is_unfit(profile: &[u8], z: usize, n: usize, w: &[u8]) -> bool
+    requires { ⌜ (judged (now profile) ≡ 0) × (n ≤ 32) ⌝ }
+    ensures { λ r. ⌜ r ≡ unfit (now (profile .entry)) z n (now (w .entry)) ⌝ }
+{
+    let t = profile::inner::t(profile);
+    if profile::inner::index_of(profile, z) == t {
+        return true;
+    }
+    w.len() != n * z
+}
 
 // Whether the word checks: every row of the spread-out matrix sums to an even number over it.
 pub fn checks(table: &[u8], rows: usize, columns: usize, z: usize, word: &[u8]) -> bool

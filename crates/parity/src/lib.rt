@@ -1,4 +1,4 @@
-// The parity check of section 5.1.3.2: coding one block of places, and checking one word of bits.
+// The parity check of section 5.1.3.2: coding one block of places; checking a word, where it is asked for by the crates above.
 mod gate;
 pub mod inner;
 mod run;
@@ -12,14 +12,8 @@ ghost use Prim.Native.Nat.{_*_};
 ghost use lib.ListN.{length};
 ghost use Rattle.profile.specs.Record.{rows, columns};
 ghost use Rattle.parity.specs.Coded.{coded};
-ghost use Rattle.parity.specs.Promises.{tableFor, BlockCoded, WordChecked};
+ghost use Rattle.parity.specs.Promises.{tableFor, BlockCoded};
 ghost use Rattle.parity.specs.steps.Gate.{Taken};
-
-// A check's answer: its number, and whether the word checks, no with a refusal.
-pub struct Verdict {
-    pub number: u32,
-    pub checks: bool,
-}
 
 // Codes places that no number refuses, in `word`, which is as long as their coded block.
 fn code_in(profile: &[u8], z: usize, places: &[u8], word: &mut [u8])
@@ -46,23 +40,4 @@ pub fn code_block(profile: &[u8], z: usize, places: &[u8], out: &mut [u8]) -> Wr
     let count = profile::inner::columns(profile) * z;
     code_in(profile, z, places, &mut out[..count]);
     Written { number, count }
-}
-
-// Checks one word of bits: whether every row of the spread-out matrix sums to an even number over it.
-pub fn check_word(profile: &[u8], z: usize, word: &[u8]) -> Verdict
-    ensures { λ r. ⌜ WordChecked (now (profile .entry)) z (now (word .entry)) r ⌝ }
-{
-    let number = gate::word_number(profile, z, word);
-    if number != DONE {
-        return Verdict {
-            number,
-            checks: false,
-        };
-    }
-    let rows = profile::inner::rows(profile);
-    let columns = profile::inner::columns(profile);
-    let at = profile::inner::index_of(profile, z);
-    let table = profile::inner::table(profile, at);
-    let checks = inner::checks(table, rows, columns, z, word);
-    Verdict { number, checks }
 }

@@ -1,5 +1,6 @@
-// The request `hrecv PRIVATE PUBLIC TENANT PROFILE A NL QM BITS OUTLEN`: the block that was sent as a tenant's bits.
+// The request `hrecv PRIVATE PUBLIC TENANT PROFILE A NL QM BITS OUTLEN by=quick|plain`: the block that was sent as a tenant's bits.
 use crate::answers::Answer;
+use crate::checker;
 use crate::output;
 use bits::count::Terms;
 use text::forms::WORDS;
@@ -21,6 +22,7 @@ pub fn answer<'a>(
         nl: numbers[6],
         qm: numbers[7],
     };
-    let written = shelf::hosted_receive(private, public, tenant, profile, a, terms, bits, lent);
+    let by = checker::of_place(numbers[10]);
+    let written = shelf::hosted_receive(private, public, tenant, profile, a, terms, bits, by, lent);
     output::answer(Shown::Octets, written, lent)
 }

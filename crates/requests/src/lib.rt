@@ -1,12 +1,14 @@
 // Requests and answers as docs/REQUESTS.md gives them: from a line's octets to the octets of its answer.
 pub mod answers;
 mod check;
+mod checker;
 mod crc;
 mod crcappend;
 mod crcm;
 mod crcoct;
 mod crctest;
 mod encode;
+mod hcheck;
 mod hrecv;
 mod hsend;
 mod judge;
@@ -18,3 +20,4 @@ mod plan;
 mod rate;
 mod recv;
 mod send;
+mod sums;

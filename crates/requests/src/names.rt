@@ -7,6 +7,7 @@ use crate::crcm;
 use crate::crcoct;
 use crate::crctest;
 use crate::encode;
+use crate::hcheck;
 use crate::hrecv;
 use crate::hsend;
 use crate::judge;
@@ -15,6 +16,7 @@ use crate::plan;
 use crate::rate;
 use crate::recv;
 use crate::send;
+use crate::sums;
 use text::faults::Fault;
 use text::forms;
 use text::forms::Given;
@@ -37,13 +39,15 @@ crctest WIDTH MASK BITS
 profile RECORD
 plan RECORD OCTETS
 encode RECORD Z PLACES OUTLEN
-check RECORD Z BITS
+check RECORD Z BITS by=quick|plain
+sums RECORD Z BITS OUTLEN
 rate E PLACES OUTLEN
 send RECORD BLOCK NL QM G OUTLEN
-recv RECORD A NL QM BITS OUTLEN
+recv RECORD A NL QM BITS OUTLEN by=quick|plain
 lookup PRIVATE PUBLIC TENANT PROFILE
 hsend PRIVATE PUBLIC TENANT PROFILE BLOCK NL QM G OUTLEN
-hrecv PRIVATE PUBLIC TENANT PROFILE A NL QM BITS OUTLEN
+hrecv PRIVATE PUBLIC TENANT PROFILE A NL QM BITS OUTLEN by=quick|plain
+hcheck PRIVATE PUBLIC TENANT PROFILE Z BITS by=quick|plain
 ",
         request,
         records,
@@ -130,12 +134,14 @@ fn of_kind<'a>(
         6 => plan::answer(numbers, record),
         7 => encode::answer(numbers, record, bits, lent),
         8 => check::answer(numbers, record, bits),
-        9 => rate::answer(numbers, bits, lent),
-        10 => send::answer(numbers, record, bits, lent),
-        11 => recv::answer(numbers, record, bits, lent),
-        12 => lookup::answer(numbers, record, public),
-        13 => hsend::answer(numbers, record, public, bits, lent),
-        14 => hrecv::answer(numbers, record, public, bits, lent),
+        9 => sums::answer(numbers, record, bits, lent),
+        10 => rate::answer(numbers, bits, lent),
+        11 => send::answer(numbers, record, bits, lent),
+        12 => recv::answer(numbers, record, bits, lent),
+        13 => lookup::answer(numbers, record, public),
+        14 => hsend::answer(numbers, record, public, bits, lent),
+        15 => hrecv::answer(numbers, record, public, bits, lent),
+        16 => hcheck::answer(numbers, record, public, bits),
         _ => Answer::Error(Fault::Request),
     }
 }

@@ -1,5 +1,6 @@
-// The request `recv RECORD A NL QM BITS OUTLEN`: the block that was sent as these bits.
+// The request `recv RECORD A NL QM BITS OUTLEN by=quick|plain`: the block that was sent as these bits.
 use crate::answers::Answer;
+use crate::checker;
 use crate::output;
 use bits::count::Terms;
 use text::forms::WORDS;
@@ -12,6 +13,7 @@ pub fn answer(numbers: &[usize; WORDS], record: &[u8], bits: &[u8], lent: &mut [
         nl: numbers[3],
         qm: numbers[4],
     };
-    let written = coding::receive(record, a, terms, bits, lent);
+    let by = checker::of_place(numbers[7]);
+    let written = coding::receive(record, a, terms, bits, by, lent);
     output::answer(Shown::Octets, written, lent)
 }

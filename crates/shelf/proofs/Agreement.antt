@@ -6,9 +6,11 @@ use denote.Ref.{RefT, now, ptr}
 use Rattle.bits.specs.declared.number.Written.{Written}
 use Rattle.bits.specs.declared.count.Terms.{Terms}
 use Rattle.bits.proofs.Ranges.{equal-or}
+use Rattle.checking.specs.declared.Verdict.{Verdict}
+use Rattle.checking.proofs.Agreement.{word-checked-agree}
 use Rattle.coding.proofs.Agreement.{send-agree, receive-agree}
 use Rattle.shelf.specs.Lookup.{lookupNumber, lookupRecord}
-use Rattle.shelf.specs.Promises.{LookedUp, Hosted, HostedSent, HostedReceived}
+use Rattle.shelf.specs.Promises.{LookedUp, Hosted, HostedSent, HostedReceived, HostedChecked}
 
 pub lookup-number-agree : (private public : List ℕ) (t p : ℕ) {r r' : ℕ}
     → r ≡ lookupNumber private public t p → r' ≡ lookupNumber private public t p → r ≡ r'
@@ -34,3 +36,10 @@ hosted-send-agree a b = hosted-agree (λ s s'. send-agree s s') a b
 pub hosted-receive-agree : {private public : List ℕ} {t p a : ℕ} {terms : Terms} {bits out : List ℕ} {r r' : Written} {o o' : List ℕ}
     → HostedReceived private public t p a terms bits out r o → HostedReceived private public t p a terms bits out r' o' → (r ≡ r') × (o ≡ o')
 hosted-receive-agree a b = hosted-agree (λ h h'. receive-agree h h') a b
+
+pub hosted-check-agree : {private public : List ℕ} {t p z : ℕ} {word : List ℕ} {r r' : Verdict}
+    → HostedChecked private public t p z word r → HostedChecked private public t p z word r' → r ≡ r'
+hosted-check-agree {private} {public} {t} {p} a b =
+    equal-or (lookupNumber private public t p) 0
+    (λ z. word-checked-agree (a .found z) (b .found z))
+    (λ n. a .refused n ∙ sym (b .refused n))

@@ -10,9 +10,11 @@ use borrow.Author.Tests.{eqb-true, eq-eqb, not-false}
 use Rattle.bits.specs.declared.number.Written.{Written}
 use Rattle.bits.proofs.Answers.{passed, when-done}
 use Rattle.bits.proofs.Ranges.{both, First, first-some, none-any}
+use Rattle.checking.specs.Promises.{WordChecked}
+use Rattle.checking.specs.declared.Verdict.{Verdict}
 use Rattle.shelf.specs.Shelf.{count, tenant, profile, privateShelf, publicShelf}
 use Rattle.shelf.specs.Lookup.{isEntry, has, entryOf, recordOf, lookupNumber, lookupRecord, lookupPlace}
-use Rattle.shelf.specs.Promises.{Hosted}
+use Rattle.shelf.specs.Promises.{Hosted, HostedChecked}
 use Rattle.shelf.specs.Isolation.{Own, Public, AlikeFor}
 
 -- ---- "Two well-formed private shelves that agree on that tenant's records give it the same answers and bits, with all else equal."
@@ -47,6 +49,13 @@ module _ {t : ℕ} {S S' : List ℕ} (alike : AlikeFor t S S') (public : List �
             let kept = h .refused (λ z. n (sym same-number ∙ z)) in
             (kept .0 ∙ ap (λ (k : ℕ). record { number = k; count = 0 }) same-number, kept .1);
         found = λ z. subst promised same-record (h .found (same-number ∙ z));
+      }
+
+  pub same-check : {z' : ℕ} {word : List ℕ} {r : Verdict} → HostedChecked S public t p z' word r → HostedChecked S' public t p z' word r
+  same-check {z'} {word} {r} h =
+      record {
+        refused = λ n. h .refused (λ z. n (sym same-number ∙ z)) ∙ ap (λ (k : ℕ). record { number = k; checks = false }) same-number;
+        found = λ z. subst (λ (R : List ℕ). WordChecked R z' word r) same-record (h .found (same-number ∙ z));
       }
 
 -- ---- "A tenant is served from its own private records or the public shelf."

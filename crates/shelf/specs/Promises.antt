@@ -1,10 +1,13 @@
 -- What the public calls promise, for all octets, lengths and numbers. t is the tenant and p the profile number.
 use mathlib.Core.Path.{_≡_}
+use mathlib.Core.Bool.{false}
 use mathlib.Core.List.{List}
 use Prim.Native.Nat.{ℕ}
 use denote.Ref.{RefT, now, ptr}
 use Rattle.bits.specs.declared.number.Written.{Written}
 use Rattle.bits.specs.declared.count.Terms.{Terms}
+use Rattle.checking.specs.Promises.{WordChecked}
+use Rattle.checking.specs.declared.Verdict.{Verdict}
 use Rattle.coding.specs.Promises.{Sent, Received}
 use Rattle.shelf.specs.Lookup.{lookupNumber, lookupRecord, lookupPlace}
 
@@ -23,3 +26,8 @@ HostedSent private public t p block terms g out r out' = Hosted private public t
 
 abbrev pub HostedReceived : List ℕ → List ℕ → ℕ → ℕ → ℕ → Terms → List ℕ → List ℕ → Written → List ℕ → Type 0
 HostedReceived private public t p a terms bits out r out' = Hosted private public t p (λ R. Received R a terms bits out r out') out r out'
+
+-- a check, the same way: it writes nothing, and where the lookup refuses the word is not said to check
+pub record HostedChecked (private public : List ℕ) (t p z' : ℕ) (word : List ℕ) (r : Verdict) : Type 0 where
+  pub refused : (lookupNumber private public t p ≡ 0 → ⊥) → r ≡ record { number = lookupNumber private public t p; checks = false }
+  pub found : lookupNumber private public t p ≡ 0 → WordChecked (lookupRecord private public t p) z' word r

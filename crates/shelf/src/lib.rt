@@ -1,4 +1,4 @@
-// Shelves: the record that a tenant is given, and the hosted calls, which look it up first. The coding part is known by its promises only.
+// Shelves: the record that a tenant is given, and the hosted calls, which look it up first. Coding and checking are known by their promises only.
 mod entry;
 mod find;
 mod form;
@@ -10,9 +10,11 @@ use bits::count::CodedBits;
 use bits::count::Terms;
 use bits::number::DONE;
 use bits::number::Written;
+use checking::Checker;
+use checking::Verdict;
 ghost use mathlib.Core.Path.{_≡_};
 ghost use Rattle.shelf.specs.Lookup.{lookupNumber};
-ghost use Rattle.shelf.specs.Promises.{LookedUp, HostedSent, HostedReceived};
+ghost use Rattle.shelf.specs.Promises.{LookedUp, HostedSent, HostedReceived, HostedChecked};
 
 // The number of a lookup: 0, or 1 to 4.
 pub fn lookup_number(private: &[u8], public: &[u8], tenant: u16, profile: u16) -> u32
@@ -60,6 +62,7 @@ pub fn hosted_receive<'a>(
     a: usize,
     terms: Terms,
     bits: &[u8],
+    checker: Checker,
     out: &mut [u8],
 ) -> Written
     ensures { λ r. ⌜ HostedReceived (now (private .entry)) (now (public .entry)) tenant profile a terms (now (bits .entry)) (now (out .entry)) r (now (out .exit)) ⌝ }
@@ -69,5 +72,29 @@ pub fn hosted_receive<'a>(
     if number != DONE {
         return Written { number, count: 0 };
     }
-    coding::receive(stretch(private, public, found), a, terms, bits, out)
+    let record = stretch(private, public, found);
+    coding::receive(record, a, terms, bits, checker, out)
+}
+
+// Checks one word of bits with the profile that a tenant is given, the same way: for those who hold a word beside a printed matrix.
+pub fn hosted_check<'a>(
+    private: &'a [u8],
+    public: &'a [u8],
+    tenant: u16,
+    profile: u16,
+    z: usize,
+    word: &[u8],
+    checker: Checker,
+) -> Verdict
+    ensures { λ r. ⌜ HostedChecked (now (private .entry)) (now (public .entry)) tenant profile z (now (word .entry)) r ⌝ }
+{
+    let found = look(private, public, tenant, profile);
+    let number = found.number;
+    if number != DONE {
+        return Verdict {
+            number,
+            checks: false,
+        };
+    }
+    checking::check_word(stretch(private, public, found), z, word, checker)
 }

@@ -64,6 +64,10 @@ mod tests {
         assert_eq!(answered(&format!("check {TOY} 2 01111011")), "0 1");
         assert_eq!(answered(&format!("check {TOY} 2 01111010")), "0 0");
         assert_eq!(answered(&format!("check {TOY} 2 21111011")), "12 0");
+        assert_eq!(answered(&format!("sums {TOY} 2 01111011 6")), "0 6 000000");
+        assert_eq!(answered(&format!("sums {TOY} 2 11111111 7")), "0 6 110000");
+        assert_eq!(answered(&format!("sums {TOY} 2 01111011 5")), "11 0 -");
+        assert_eq!(answered(&format!("sums {TOY} 2 0111101 6")), "8 0 -");
         assert_eq!(answered("rate 9 1200 9"), "0 9 9200");
         assert_eq!(answered("rate 1 22 1"), "8 0 -");
         assert_eq!(
@@ -91,6 +95,34 @@ mod tests {
             answered(&format!("hrecv {shelves} 0 7 8 1 2 {P10} 1")),
             "1 0 -"
         );
+        assert_eq!(answered(&format!("hcheck {shelves} 1 7 2 01111011")), "0 1");
+        assert_eq!(answered(&format!("hcheck {shelves} 1 7 2 01111010")), "0 0");
+        assert_eq!(answered(&format!("hcheck {shelves} 2 7 2 01111011")), "4 0");
+    }
+
+    #[test]
+    fn either_checker_says_the_same() {
+        let shelves = format!("00010001000700{:02x}0016{TOY} 0000 1 7", 10);
+        for (line, answers) in [
+            (format!("check {TOY} 2 01111011"), "0 1"),
+            (format!("check {TOY} 2 01111010"), "0 0"),
+            (format!("check {TOY} 3 01111011"), "8 0"),
+            (format!("recv {TOY} 8 1 2 {P10} 1"), "0 1 01"),
+            (format!("recv {TOY} 8 1 2 {P10} 0"), "11 0 -"),
+            (format!("hrecv {shelves} 8 1 2 {P10} 1"), "0 1 01"),
+            (format!("hrecv {shelves} 8 1 4 {P10} 1"), "0 1 01"),
+            (format!("hcheck {shelves} 2 01111011"), "0 1"),
+            (format!("hcheck {shelves} 2 01111012"), "12 0"),
+        ] {
+            for ending in ["", " by=quick", " by=plain", " by=plain # comment"] {
+                assert_eq!(
+                    answered(&(line.clone() + ending)),
+                    answers,
+                    "{line}{ending}"
+                );
+            }
+            assert_eq!(answered(&(line + " by=slow")), "error words");
+        }
     }
 
     #[test]
@@ -131,6 +163,8 @@ mod tests {
         assert_eq!(answered(&" ".repeat(LINE_ROOM + 1)), "error long");
         assert_eq!(answered("src 8 1"), "error request");
         assert_eq!(answered("crc 8"), "error words");
+        assert_eq!(answered("crc 8 1 by=plain"), "error words");
+        assert_eq!(answered("sums - 2 - 0 by=plain"), "error words");
         assert_eq!(answered("crc eight 1"), "error number");
         assert_eq!(answered("crcm 8 eight 1"), "error number");
         assert_eq!(answered("crctest 8 x:01 1"), "error number");

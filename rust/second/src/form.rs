@@ -58,8 +58,8 @@ pub struct Given {
     options: Vec<(&'static str, Value)>,
 }
 
-#[allow(dead_code, reason = "no kind of request has an optional word yet")]
 impl Optional {
+    #[allow(dead_code, reason = "no kind of request has an optional number yet")]
     pub const fn number(name: &'static str, default: u64) -> Optional {
         let holds = Holds::Number(default);
         Optional { name, holds }
@@ -193,7 +193,7 @@ impl Given {
     }
 
     /// The number that the optional word of this name holds.
-    #[allow(dead_code, reason = "no kind of request has an optional word yet")]
+    #[allow(dead_code, reason = "no kind of request has an optional number yet")]
     pub fn number_of(&self, name: &str) -> u64 {
         match self.option(name) {
             Value::Number(number) => *number,
@@ -201,8 +201,9 @@ impl Given {
         }
     }
 
-    /// The alternative that the optional word of this name holds.
-    #[allow(dead_code, reason = "no kind of request has an optional word yet")]
+    /// The alternative that the optional word of this name holds, for the tests of reading: none
+    /// decides an answer yet.
+    #[cfg(test)]
     pub fn alternative_of(&self, name: &str) -> &'static str {
         match self.option(name) {
             Value::Alternative(alternative) => alternative,

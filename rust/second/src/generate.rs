@@ -174,12 +174,14 @@ mod tests {
             ("plan", &[0, 5, 6, 7, 9]),
             ("encode", &[0, 5, 6, 8, 11, 12]),
             ("check", &[0, 5, 6, 8, 12]),
+            ("sums", &[0, 5, 6, 8, 11, 12]),
             ("rate", &[0, 8, 11, 12]),
             ("send", &[0, 5, 6, 7, 8, 9, 10, 11]),
             ("recv", &[0, 5, 6, 7, 8, 9, 10, 11, 12, 13, 14]),
             ("lookup", &[0, 1, 2, 3, 4]),
             ("hsend", &[0, 1, 2, 3, 4, 5, 6, 7, 8, 9, 10, 11]),
             ("hrecv", &[0, 1, 2, 3, 4, 5, 6, 7, 8, 9, 10, 11, 12, 13, 14]),
+            ("hcheck", &[0, 1, 2, 3, 4, 5, 6, 8, 12]),
         ] {
             let (numbers, others) = numbers_of(kind);
             let expected = expected.iter().copied().collect();
@@ -197,12 +199,43 @@ mod tests {
 
     #[test]
     fn words_are_tested_with_either_answer() {
-        let lines = generated(Some("crctest"), 4, 2000);
-        let (yes, no) = (answered(&lines, "0 1"), answered(&lines, "0 0"));
-        let done = yes + no;
-        // Of the lines that are done more than half are words that test, and more than a quarter others.
-        assert!(3 * done > 2000, "{done}");
-        assert!(2 * yes > done && 4 * no > done, "{yes} {no}");
+        for kind in ["crctest", "check", "hcheck"] {
+            let lines = generated(Some(kind), 4, 2000);
+            let (yes, no) = (answered(&lines, "0 1"), answered(&lines, "0 0"));
+            let done = yes + no;
+            // Of the lines that are done more than half are words that test, and more than a quarter
+            // others.
+            assert!(3 * done > 2000, "{kind}: {done}");
+            assert!(2 * yes > done && 4 * no > done, "{kind}: {yes} {no}");
+        }
+    }
+
+    /// How many of the lines that are requests name no checker, `quick` and `plain`.
+    fn checkers(mut input: &[u8]) -> [usize; 3] {
+        let mut counts = [0; 3];
+        while let Some(line) = next_line(&mut input).unwrap() {
+            let names = |word: &str| line.windows(word.len()).any(|part| part == word.as_bytes());
+            let checker = ["by=quick", "by=plain"].iter().position(|word| names(word));
+            if request(&line).is_ok_and(|read| read.is_some()) {
+                counts[checker.map_or(0, |place| place + 1)] += 1;
+            }
+        }
+        counts
+    }
+
+    #[test]
+    fn a_checker_is_asked_for_in_each_way() {
+        for kind in ["check", "recv", "hrecv", "hcheck"] {
+            let counts = checkers(&generated(Some(kind), 4, 900));
+            assert!(
+                counts.iter().all(|&count| count > 200),
+                "{kind}: {counts:?}"
+            );
+        }
+        for kind in ["encode", "sums", "hsend"] {
+            let counts = checkers(&generated(Some(kind), 4, 900));
+            assert_eq!(counts[1..], [0, 0], "{kind}");
+        }
     }
 
     /// The transfer that a line of `send`, `recv`, `hsend` or `hrecv` asks for, where there is one.

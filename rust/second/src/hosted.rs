@@ -1,7 +1,8 @@
-//! The hosted calls: a lookup first, and then sending or receiving with the record (document 01,
-//! "Numbers that are answered").
+//! The hosted calls: a lookup first, and then sending, receiving or checking with the record (document
+//! 01, "Numbers that are answered"; document 02, CR 4).
 
 use crate::numbers::Number;
+use crate::parity::check;
 use crate::receive::receive;
 use crate::send::send;
 use crate::shelf::{lookup, Asked};
@@ -29,6 +30,12 @@ pub fn hosted_receive(
 ) -> Result<usize, Number> {
     let found = lookup(shelves)?;
     receive(shelves.octets(&found), a, layers, order, bits, output)
+}
+
+/// Whether a word checks, or 1 to 4, or as checking answers.
+pub fn hosted_check(shelves: &Asked, z: u64, word: &[u8]) -> Result<bool, Number> {
+    let found = lookup(shelves)?;
+    check(shelves.octets(&found), z, word)
 }
 
 #[cfg(test)]

@@ -7,6 +7,7 @@ mod crcm;
 mod crcoct;
 mod crctest;
 mod encode;
+mod hcheck;
 mod hrecv;
 mod hsend;
 mod lookup;
@@ -16,6 +17,7 @@ mod profile;
 mod rate;
 mod recv;
 mod send;
+mod sums;
 
 use crate::errors::Fault;
 use crate::form::{Form, Given};
@@ -31,12 +33,14 @@ pub const KINDS: &[Kind] = &[
     plan::KIND,
     encode::KIND,
     check::KIND,
+    sums::KIND,
     rate::KIND,
     send::KIND,
     recv::KIND,
     lookup::KIND,
     hsend::KIND,
     hrecv::KIND,
+    hcheck::KIND,
 ];
 
 /// One kind of request.

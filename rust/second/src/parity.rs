@@ -30,19 +30,41 @@ pub fn encode(record: &[u8], z: u64, places: &[u8], output: &mut [u8]) -> Result
 
 /// Whether one word of single bits checks, or 5, 6, 8, 12.
 pub fn check(record: &[u8], z: u64, word: &[u8]) -> Result<bool, Number> {
+    let matrix = matrix_of(record, z, word)?;
+    // "A word of (kb+m)·z bits checks when every row of the spread-out matrix sums to an even
+    // number over it."
+    Ok(row_sums(&matrix, word)?.iter().all(|&sum| sum == 0))
+}
+
+/// Writes what each row of the spread-out matrix sums to over one word of single bits, modulo two: the
+/// count of rows, or 5, 6, 8, 11, 12.
+pub fn sums(record: &[u8], z: u64, word: &[u8], output: &mut [u8]) -> Result<usize, Number> {
+    let matrix = matrix_of(record, z, word)?;
+    let count = matrix.rows.len();
+    if output.len() < count {
+        return Err(OUTPUT);
+    }
+    output[..count].copy_from_slice(&row_sums(&matrix, word)?);
+    Ok(count)
+}
+
+/// The spread-out matrix for a word of its length, or 5, 6, 8.
+fn matrix_of(record: &[u8], z: u64, word: &[u8]) -> Result<Matrix, Number> {
     let profile = profile(record)?;
     let table = table(&profile, z)?;
     let columns = profile.kb + profile.m;
     if word.len() != columns * table.z {
         return Err(PARAMETER);
     }
+    Ok(spread_out(table, 0..columns))
+}
+
+/// Each row's sum over a word of single bits, modulo two, or 12.
+fn row_sums(matrix: &Matrix, word: &[u8]) -> Result<Vec<u8>, Number> {
     if word.iter().any(|&bit| bit > 1) {
         return Err(NO_BIT);
     }
-    // "A word of (kb+m)·z bits checks when every row of the spread-out matrix sums to an even
-    // number over it."
-    let sums = spread_out(table, 0..columns).sums_over(&Row::of(word));
-    Ok(sums.iter().all(|&sum| sum == 0))
+    Ok(matrix.sums_over(&Row::of(word)))
 }
 
 /// The table of a z, or 8 for "a z ... that the profile does not give".

@@ -1,5 +1,5 @@
 //! Records that are known from the documents: the toy, and Type 1 tables of 5G.212 v2.3. For tests also
-//! the toy spoiled, and single bits.
+//! the toy spoiled, a small record of z 5, and single bits.
 
 use crate::draft::{with_staircase, Draft, Rows, EMPTY};
 #[cfg(test)]
@@ -113,6 +113,22 @@ pub fn no_staircase() -> [u8; 22] {
     record[12] = 1;
     record
 }
+
+/// Kb 1, m 3, one z of 5: rows 2 1 0 -, 4 0 0 0 and 1 1 - 0. No shift but 0 is the same the other way
+/// round, as shift 1 of the toy is.
+#[cfg(test)]
+pub const FIVE: [u8; 22] = [
+    0x00, 0x01, 0x00, 0x03, 0x00, 0x01, 0x00, 0x05, 0x00, 0x0a, 0x02, 0x01, 0x00, 0xff, 0x04, 0x00,
+    0x00, 0x00, 0x01, 0x01, 0xff, 0x00,
+];
+
+/// A word that checks with it: x = 10000 and three groups of parity bits. With x5 read as x0 and so on,
+/// rows 0 to 4 are x[i+2] + p[i+1] + q[i], rows 5 to 9 are x[i+4] + p[i] + q[i] + r[i], and rows 10 to 14
+/// are x[i+1] + p[i+1] + r[i]. All three add up to x[i+2] + x[i+4] + x[i+1] + p[i], so p is 1 where i+2,
+/// i+4 or i+1 is 5, in places 3, 1 and 4. Then p[i+1] is 1 in places 2, 0 and 3, and x[i+2] in place 3:
+/// q is 1 in places 0 and 2. And x[i+1] is 1 in place 4: r is 1 in places 0, 2, 3 and 4.
+#[cfg(test)]
+pub const FIVE_WORD: [u8; 20] = [1, 0, 0, 0, 0, 0, 1, 0, 1, 1, 1, 0, 1, 0, 0, 1, 0, 1, 1, 1];
 
 /// Single bits, at random.
 #[cfg(test)]

@@ -38,7 +38,7 @@ abbrev transported : tie.Else1 → List ℕ
 transported c = gathered (profile c) (blockBits (start c .args .octets)) (start c .args .terms) (received c)
 
 abbrev room : tie.Else1 → List ℕ
-room c = c .before .before .before .rebuild-bits .last .1 .1 .1 .1 .0
+room c = c .before .before .before .rebuild-bits .last .1 .1 .1 .1 .1 .0
 
 abbrev size : tie.Else1 → ℕ
 size c = c .before .before .before .before .before .plan-accepted .result .bits

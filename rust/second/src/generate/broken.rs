@@ -6,12 +6,15 @@ use crate::kinds::Kind;
 use crate::random::Random;
 
 pub fn line(kind: &Kind, random: &mut Random) -> Vec<u8> {
+    if !kind.form.options.is_empty() && random.one_in(3) {
+        return about_the_checker(kind, random);
+    }
     match random.below(10) {
         0 => no_answer(kind, random),
         1 => other_name(kind, random),
         2 => other_count_of_words(kind, random),
         3 => doubled_space(kind, random),
-        4..=5 => words_at_the_edge(kind, random),
+        4..=5 => write::line(&words_at_the_edge(kind, random)),
         6 => any_characters(kind, random),
         7 => optional_words(kind, random),
         _ => one_change(kind, random),
@@ -94,13 +97,13 @@ fn doubled_space(kind: &Kind, random: &mut Random) -> Vec<u8> {
 }
 
 /// One word at the edge of what it may be, or two, so that the order of the errors is compared.
-fn words_at_the_edge(kind: &Kind, random: &mut Random) -> Vec<u8> {
+fn words_at_the_edge(kind: &Kind, random: &mut Random) -> Words {
     let mut words = random.pick(&[Kind::done, Kind::done, Kind::refused])(kind, random);
     for _ in 0..random.pick(&[1, 1, 2]) {
         let place = random.below(kind.form.words.len());
         words[1 + place] = word_at_the_edge(kind.form.words[place], random);
     }
-    write::line(&words)
+    words
 }
 
 fn word_at_the_edge(word: Word, random: &mut Random) -> Vec<u8> {
@@ -282,6 +285,49 @@ fn optional_word(random: &mut Random) -> Vec<u8> {
     [name, b"=", held].concat()
 }
 
+/// A request that may ask for a checker, with words about that behind it, in the middle of it, or in the
+/// place of one of its words. The request is good, refused, or at the edge itself, so that the order of
+/// the errors is compared.
+fn about_the_checker(kind: &Kind, random: &mut Random) -> Vec<u8> {
+    let mut words = random.pick(&[Kind::done, Kind::refused, words_at_the_edge])(kind, random);
+    words.truncate(1 + kind.form.words.len());
+    let about = checker_words(random).to_vec();
+    let place = 1 + random.below(kind.form.words.len());
+    match random.below(6) {
+        0 => words.insert(place, about),
+        1 => words[place] = about,
+        _ => words.push(about),
+    }
+    write::line(&words)
+}
+
+/// The optional word for the checker, and what is close to it: another value, another name, another
+/// form, and more words than one.
+fn checker_words(random: &mut Random) -> &'static [u8] {
+    let words: [&[u8]; 19] = [
+        b"by=quick",
+        b"by=plain",
+        b"by=slow",
+        b"by=",
+        b"by=Plain",
+        b"by=plai",
+        b"by=quickly",
+        b"by=plain=",
+        b"By=plain",
+        b"=plain",
+        b"by",
+        b"by plain",
+        b"rv=0",
+        b"by=plain rv=0",
+        b"rv=0 by=plain",
+        b"by=plain by=plain",
+        b"by=quick by=plain",
+        b"by=slow by=plain",
+        b"by=plain -",
+    ];
+    random.pick(&words)
+}
+
 /// Short lines out of the characters that mean something.
 fn any_characters(kind: &Kind, random: &mut Random) -> Vec<u8> {
     let length = random.below(16);
@@ -323,22 +369,82 @@ fn any_but_newline(random: &mut Random) -> u8 {
 
 #[cfg(test)]
 mod tests {
-    use super::optional_words;
+    use super::{about_the_checker, line, optional_words};
     use crate::answer::answer;
-    use crate::kinds::KINDS;
+    use crate::kinds::{named, Kind, KINDS};
     use crate::random::Random;
 
+    /// The kinds that may ask for a checker.
+    const CHECKING: [&str; 4] = ["check", "recv", "hrecv", "hcheck"];
+
+    /// What the lines are answered, as far as they are.
+    fn answers(lines: &[Vec<u8>]) -> Vec<String> {
+        lines.iter().filter_map(|line| answer(line)).collect()
+    }
+
+    /// How many of the answers begin so.
+    fn count(answers: &[String], begin: &str) -> usize {
+        let found = answers.iter().filter(|text| text.starts_with(begin));
+        found.count()
+    }
+
     #[test]
-    fn optional_words_are_errors_until_a_kind_has_them() {
+    fn optional_words_are_errors_where_a_kind_has_none() {
         let mut random = Random::new(1);
-        for kind in KINDS.iter().filter(|kind| kind.form.options.is_empty()) {
+        let has_none = |kind: &&Kind| !CHECKING.contains(&kind.name);
+        for kind in KINDS.iter().filter(has_none) {
             let lines: Vec<_> = (0..100)
                 .map(|_| optional_words(kind, &mut random))
                 .collect();
-            let answers: Vec<_> = lines.iter().filter_map(|line| answer(line)).collect();
-            assert!(answers.iter().all(|text| text.starts_with("error ")));
-            let words = answers.iter().filter(|text| *text == "error words");
-            assert!(words.count() > 70, "{}", kind.name);
+            let answers = answers(&lines);
+            assert_eq!(count(&answers, "error "), answers.len());
+            assert!(count(&answers, "error words") > 70, "{}", kind.name);
+        }
+    }
+
+    #[test]
+    fn words_about_the_checker_are_errors_or_not() {
+        let mut random = Random::new(2);
+        for name in CHECKING {
+            let kind = named(name.as_bytes()).unwrap();
+            let lines: Vec<_> = (0..1000)
+                .map(|_| about_the_checker(kind, &mut random))
+                .collect();
+            let answers = answers(&lines);
+            assert!(count(&answers, "error words") > 500, "{name}");
+            // Words in the middle, and words at the edge, go before what `by` holds.
+            for error in ["error number", "error bits", "error hex"] {
+                assert!(count(&answers, error) > 0, "{name}: {error}");
+            }
+            assert!(count(&answers, "0 ") > 10, "{name}");
+        }
+    }
+
+    #[test]
+    fn a_checker_is_asked_for_wrongly_in_every_way() {
+        let mut random = Random::new(3);
+        for name in CHECKING {
+            let kind = named(name.as_bytes()).unwrap();
+            let lines: Vec<_> = (0..1000).map(|_| line(kind, &mut random)).collect();
+            for ending in [
+                " by=slow",
+                " by=",
+                " by=Plain",
+                " by=plain by=plain",
+                " by=quick by=plain",
+                " rv=0",
+            ] {
+                let end = ending.as_bytes();
+                let mut ending_so = lines.iter().filter(|line| line.ends_with(end));
+                let is_error = ending_so.any(|line| answer(line).unwrap() == "error words");
+                assert!(is_error, "{name}: {ending}");
+            }
+            let in_the_middle = |line: &Vec<u8>| {
+                let mut words = line.split(|&octet| octet == b' ');
+                let place = words.position(|word| word == b"by=plain");
+                place.is_some_and(|place| place < kind.form.words.len())
+            };
+            assert!(lines.iter().any(in_the_middle), "{name}");
         }
     }
 }

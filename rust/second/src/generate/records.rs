@@ -20,6 +20,11 @@ pub fn small(random: &mut Random) -> Draft {
     drawn(3, 4, 6, random)
 }
 
+/// A record that is accepted and has the same kb, m and sizes, with tables of its own.
+pub fn like(draft: &Draft, random: &mut Random) -> Draft {
+    with_sizes(draft.kb, draft.m, &draft.sizes, random)
+}
+
 /// The largest record, and those of 5G.212.
 fn large(random: &mut Random) -> Draft {
     match random.below(4) {

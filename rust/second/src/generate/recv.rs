@@ -61,13 +61,15 @@ impl Receiving {
 
     /// The words after the record, or after the shelves.
     pub fn words(&self, random: &mut Random) -> Vec<Vec<u8>> {
-        vec![
+        let mut words = vec![
             write::number(self.a, random),
             write::number(self.asked.layers, random),
             write::number(self.asked.order, random),
             write::bits(&self.bits, random),
             write::count(self.length, random),
-        ]
+        ];
+        words.extend(write::checker(random));
+        words
     }
 }
 
@@ -118,7 +120,13 @@ pub fn refused(random: &mut Random) -> (Vec<u8>, Receiving) {
     let draft = good(random);
     let mut record = draft.octets();
     let mut receiving = Receiving::drawn(&draft, random);
-    for fault in random.one_or_two(13) {
+    // Another count of bits and another length are refused with several numbers each, and so drawn more.
+    let faults = match random.below(8) {
+        0 => vec![8],
+        1 => vec![10],
+        _ => random.one_or_two(13),
+    };
+    for fault in faults {
         match fault {
             0..=1 => receiving = Receiving::of(&draft, &sending_without_room(&draft, random), 0),
             2..=4 => damage(&draft, &mut receiving, random),

@@ -28,19 +28,39 @@ impl Shelves {
     /// Shelves on which the record is found. Where it could be looked for wrongly, under the same
     /// number for another tenant or on the other shelf, there often stands another one.
     pub fn with(record: &[u8], random: &mut Random) -> Shelves {
+        let others = (records(false, random), records(true, random));
+        Shelves::among(others, record, any_record, random)
+    }
+
+    /// The same on shelves with few records, and with ones of one's own where the record could be looked
+    /// for wrongly.
+    pub fn with_few(
+        record: &[u8],
+        wrong: impl Fn(&mut Random) -> Vec<u8>,
+        random: &mut Random,
+    ) -> Shelves {
+        let others = (few(false, random), few(true, random));
+        Shelves::among(others, record, wrong, random)
+    }
+
+    /// The record among those of a private and of a public shelf.
+    fn among(
+        (mut private, mut public): (Records, Records),
+        record: &[u8],
+        wrong: impl Fn(&mut Random) -> Vec<u8>,
+        random: &mut Random,
+    ) -> Shelves {
         let tenant = number(random).max(1);
         let profile = number(random);
-        let mut private = records(false, random);
-        let mut public = records(true, random);
         for other in [tenant - 1, tenant.saturating_add(1)] {
             if other != 0 && random.one_in(2) {
-                private.insert((other, profile), any_record(random));
+                private.insert((other, profile), wrong(random));
             }
         }
         if random.one_in(2) {
             private.insert((tenant, profile), record.to_vec());
             if random.one_in(2) {
-                public.insert((0, profile), any_record(random));
+                public.insert((0, profile), wrong(random));
             }
         } else {
             private.remove(&(tenant, profile));
@@ -85,9 +105,15 @@ fn number(random: &mut Random) -> u16 {
 
 /// None, few, or nearly as many records as there may be, so that with those added there are up to 64.
 fn records(public: bool, random: &mut Random) -> Records {
-    let few = random.pick(&[0, 0, 1, 1, 2, 2, 3, 5, 8]);
+    if !random.one_in(12) {
+        return few(public, random);
+    }
     let many = random.pick(&[61, 62, 63]) - 2 * usize::from(!public);
-    let count = if random.one_in(12) { many } else { few };
+    so_many(many, public, random)
+}
+
+fn few(public: bool, random: &mut Random) -> Records {
+    let count = random.pick(&[0, 0, 1, 1, 2, 2, 3, 5, 8]);
     so_many(count, public, random)
 }
 
@@ -107,7 +133,7 @@ fn so_many(count: usize, public: bool, random: &mut Random) -> Records {
 }
 
 /// Octets that may stand as a record: none, few, or a record indeed.
-fn any_record(random: &mut Random) -> Vec<u8> {
+pub fn any_record(random: &mut Random) -> Vec<u8> {
     match random.below(8) {
         0..=2 => Vec::new(),
         3..=5 => octets(random.pick(&[1, 2, 5]), random),

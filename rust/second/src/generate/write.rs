@@ -1,4 +1,5 @@
-//! Writes the words of requests: numbers, masks, bits and packed octets in each of their forms.
+//! Writes the words of requests: numbers, masks, bits and packed octets in each of their forms, and the
+//! optional word.
 
 use crate::random::Random;
 use crate::words::MASK_ROOM;
@@ -63,6 +64,12 @@ pub fn hex(octets: &[u8], random: &mut Random) -> Vec<u8> {
         return b"-".to_vec();
     }
     pairs(octets, random)
+}
+
+/// The optional word for the checker that is asked for, or none.
+pub fn checker(random: &mut Random) -> Option<Vec<u8>> {
+    let words: [Option<&[u8]>; 3] = [None, Some(b"by=quick"), Some(b"by=plain")];
+    random.pick(&words).map(<[u8]>::to_vec)
 }
 
 /// Two digits for each octet, the letters in either case.

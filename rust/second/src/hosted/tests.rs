@@ -1,12 +1,12 @@
-//! The hosted calls: they do as sending and receiving with the record that is found.
+//! The hosted calls: they do as sending, receiving and checking with the record that is found.
 
-use super::{hosted_receive, hosted_send};
+use super::{hosted_check, hosted_receive, hosted_send};
 use crate::draft::ShelfDraft;
 use crate::numbers::{
     Number, BLOCK_LENGTH, FEW_PLACES, MANY_BLOCKS, NO_BIT, NO_RECORD, OUTPUT, PARAMETER,
     PRIVATE_SHELF, PUBLIC_SHELF, RECORD, SHORT_SHARE, STAIRCASE, TENANT_0, UNSENT,
 };
-use crate::samples::{no_staircase, plain, TOY};
+use crate::samples::{no_staircase, plain, FIVE, FIVE_WORD, TOY};
 use crate::send::send;
 use crate::shelf::Asked;
 use crate::transfer;
@@ -70,6 +70,43 @@ fn what_was_sent_is_received_by_the_same_tenant() {
     }
 }
 
+/// `FIVE` with shift 0 in the place of its first, 2.
+const OTHER_FIVE: [u8; 22] = {
+    let mut record = FIVE;
+    record[10] = 0;
+    record
+};
+
+/// The word of 10000 with that record, worked as `FIVE_WORD`: rows 0 to 4 are x[i] + p[i+1] + q[i]. So p[i]
+/// is x[i] + x[i+4] + x[i+1], with ones in places 0, 1 and 4, and p[i+1] has ones in places 4, 0 and 3. With
+/// x[i] in place 0 the ones of q are in 3 and 4; with x[i+1] in place 4 those of r are in 0 and 3.
+const OTHER_WORD: [u8; 20] = [1, 0, 0, 0, 0, 1, 1, 0, 0, 1, 0, 0, 0, 1, 1, 1, 0, 0, 1, 0];
+
+/// Tenants 1 and 3 have a record 7 each, and the other record is public record 7.
+fn shelves_of_five(tenant: u16) -> Asked {
+    Asked {
+        private: ShelfDraft::new(&[(1, 7, &FIVE), (1, 8, &OTHER_FIVE), (3, 7, &TOY)]).octets(),
+        public: ShelfDraft::new(&[(0, 6, &FIVE), (0, 7, &OTHER_FIVE), (0, 8, &FIVE)]).octets(),
+        tenant,
+        profile: 7,
+    }
+}
+
+#[test]
+fn a_word_is_checked_with_the_own_record_or_the_public_one() {
+    for (tenant, own, other) in [(1, true, false), (2, false, true), (4, false, true)] {
+        let shelves = shelves_of_five(tenant);
+        assert_eq!(hosted_check(&shelves, 5, &FIVE_WORD), Ok(own));
+        assert_eq!(hosted_check(&shelves, 5, &OTHER_WORD), Ok(other));
+    }
+    let shelves = shelves_of_five(3);
+    assert_eq!(
+        hosted_check(&shelves, 2, &[0, 1, 1, 1, 1, 0, 1, 1]),
+        Ok(true)
+    );
+    assert_eq!(hosted_check(&shelves, 5, &FIVE_WORD), Err(PARAMETER));
+}
+
 #[test]
 fn other_tenants_records_decide_nothing() {
     // Demand 2: two private shelves that agree on a tenant's records.
@@ -99,6 +136,7 @@ fn the_numbers_of_a_lookup_go_first() {
         // The block and the bits are refused too, with higher numbers.
         assert_eq!(sent(&shelves, &[]), Err(number));
         assert_eq!(received(&shelves, &[9]), Err(number));
+        assert_eq!(hosted_check(&shelves, 9, &[9]), Err(number));
     }
 }
 
@@ -106,6 +144,7 @@ fn the_numbers_of_a_lookup_go_first() {
 fn a_record_of_length_0_is_found_and_not_well_formed() {
     assert_eq!(sent(&shelves(3, 7), &[0x01]), Err(RECORD));
     assert_eq!(received(&shelves(3, 7), &[0; 128]), Err(RECORD));
+    assert_eq!(hosted_check(&shelves(3, 7), 2, &[0; 8]), Err(RECORD));
 }
 
 #[test]
@@ -140,6 +179,18 @@ fn then_the_numbers_of_receiving() {
     assert_eq!(receive(8, &[0; 126], 1), Err(SHORT_SHARE));
     assert_eq!(receive(8, &[1; 128], 1), Err(UNSENT));
     assert_eq!(receive(8, &[0; 128], 1), Ok(1));
+}
+
+#[test]
+fn then_the_numbers_of_checking() {
+    let check = |profile, z, word: &[u8]| hosted_check(&shelves(4, profile), z, word);
+    assert_eq!(check(8, 3, &[9]), Err(RECORD));
+    assert_eq!(check(9, 3, &[9]), Err(STAIRCASE));
+    assert_eq!(check(7, 3, &[9; 8]), Err(PARAMETER));
+    assert_eq!(check(7, 2, &[9; 7]), Err(PARAMETER));
+    assert_eq!(check(7, 2, &[0, 0, 0, 0, 0, 0, 0, 2]), Err(NO_BIT));
+    assert_eq!(check(7, 2, &[0, 0, 0, 0, 0, 0, 0, 1]), Ok(false));
+    assert_eq!(check(7, 2, &[1, 0, 1, 1, 0, 1, 1, 1]), Ok(true));
 }
 
 #[test]

@@ -1,6 +1,6 @@
-//! `check RECORD Z BITS`: whether a coded word checks.
+//! `check RECORD Z BITS by=quick|plain`: whether a coded word checks.
 
-use super::parts::tested;
+use super::parts::{tested, CHECKER};
 use super::Kind;
 use crate::errors::Fault;
 use crate::form::{Form, Given, Word};
@@ -12,7 +12,7 @@ pub const KIND: Kind = Kind {
     name: "check",
     form: Form {
         words: &[Word::Hex(SHELF_ROOM), Word::Number, Word::Bits],
-        options: &[],
+        options: &[CHECKER],
     },
     answer,
     makers: CHECK,

@@ -1,6 +1,6 @@
-//! `hrecv PRIVATE PUBLIC TENANT PROFILE A NL QM BITS OUTLEN`: a lookup, and then `recv`.
+//! `hrecv PRIVATE PUBLIC TENANT PROFILE A NL QM BITS OUTLEN by=quick|plain`: a lookup, and then `recv`.
 
-use super::parts::{hex, receiving, shelves, written};
+use super::parts::{hex, receiving, shelves, written, CHECKER};
 use super::Kind;
 use crate::errors::Fault;
 use crate::form::{Form, Given, Word};
@@ -22,7 +22,7 @@ pub const KIND: Kind = Kind {
             Word::Bits,
             Word::Length,
         ],
-        options: &[],
+        options: &[CHECKER],
     },
     answer,
     makers: HRECV,

@@ -1,12 +1,17 @@
 //! Words and answers that several kinds of requests have in common.
 
 use crate::errors::Fault;
-use crate::form::Given;
+use crate::form::{Given, Optional};
 use crate::numbers::{Number, DONE};
 use crate::octets::packed;
 use crate::output::lend;
 use crate::shelf;
 use crate::transfer::Asked;
+
+/// The checker that is asked for. No answer reads it: "For every profile, z and word it is to say the
+/// same as the one in use" (document 02, CR 4), and here there is one way for both, the spread-out
+/// matrix. What the word holds is judged where the line is read.
+pub const CHECKER: Optional = Optional::one_of("by", &["quick", "plain"]);
 
 /// PRIVATE PUBLIC TENANT PROFILE.
 pub fn shelves(given: &mut Given) -> shelf::Asked {

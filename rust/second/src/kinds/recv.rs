@@ -1,6 +1,6 @@
-//! `recv RECORD A NL QM BITS OUTLEN`: the transport block of received bits.
+//! `recv RECORD A NL QM BITS OUTLEN by=quick|plain`: the transport block of received bits.
 
-use super::parts::{hex, receiving, written};
+use super::parts::{hex, receiving, written, CHECKER};
 use super::Kind;
 use crate::errors::Fault;
 use crate::form::{Form, Given, Word};
@@ -19,7 +19,7 @@ pub const KIND: Kind = Kind {
             Word::Bits,
             Word::Length,
         ],
-        options: &[],
+        options: &[CHECKER],
     },
     answer,
     makers: RECV,

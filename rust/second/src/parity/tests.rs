@@ -1,13 +1,15 @@
 //! Coding and checking: the worked words, each refusal, and what holds of every profile.
 
-use super::{check, encode, spread_out, table, Code, FILLER};
-use crate::draft::EMPTY;
-use crate::generate::records::good;
+use super::{check, encode, spread_out, sums, table, Code, FILLER};
+use crate::draft::{Rows, EMPTY};
+use crate::generate::records::{good, small};
 use crate::matrix::Row;
 use crate::numbers::{Number, NO_BIT, OUTPUT, PARAMETER, RECORD, STAIRCASE};
 use crate::random::Random;
 use crate::record::{profile, Entry, Profile, Table};
-use crate::samples::{binary, bits, five_sixths, half, no_staircase, not_well_formed, plain, TOY};
+use crate::samples::{
+    binary, bits, five_sixths, half, no_staircase, not_well_formed, plain, FIVE, FIVE_WORD, TOY,
+};
 
 /// Codes with room enough.
 fn coded(record: &[u8], z: u64, places: &[u8]) -> Result<Vec<u8>, Number> {
@@ -15,6 +17,21 @@ fn coded(record: &[u8], z: u64, places: &[u8]) -> Result<Vec<u8>, Number> {
     let count = encode(record, z, places, &mut output)?;
     output.truncate(count);
     Ok(output)
+}
+
+/// Sums with room enough.
+fn summed(record: &[u8], z: u64, word: &[u8]) -> Result<Vec<u8>, Number> {
+    let mut output = vec![7; 1000];
+    let count = sums(record, z, word, &mut output)?;
+    output.truncate(count);
+    Ok(output)
+}
+
+/// The word with one bit the other way round.
+fn changed(word: &[u8], place: usize) -> Vec<u8> {
+    let mut changed = word.to_vec();
+    changed[place] = 1 - changed[place];
+    changed
 }
 
 #[test]
@@ -28,6 +45,7 @@ fn the_words_of_the_toy() {
     ] {
         assert_eq!(coded(&TOY, 2, &places), Ok(word.to_vec()));
         assert_eq!(check(&TOY, 2, &word), Ok(true));
+        assert_eq!(summed(&TOY, 2, &word), Ok(vec![0; 6]));
     }
 }
 
@@ -57,6 +75,100 @@ fn the_toy_spread_out() {
     ];
     let rows = rows.map(|row| Row::of(&row)).to_vec();
     assert_eq!(spread_out(&toy.tables[0], 0..4).rows, rows);
+}
+
+#[test]
+fn the_sums_of_the_toy() {
+    // Over the rows of `the_toy_spread_out`.
+    for (word, sums) in [
+        // The first column is in rows 0 and 3, the last one in rows 3 and 5.
+        ([1, 0, 0, 0, 0, 0, 0, 0], [1, 0, 0, 1, 0, 0]),
+        ([0, 0, 0, 0, 0, 0, 0, 1], [0, 0, 0, 1, 0, 1]),
+        // The word of 01 without its last bit.
+        ([0, 1, 1, 1, 1, 0, 1, 0], [0, 0, 0, 1, 0, 1]),
+        // Rows 0 and 1 have three ones, all others two or four.
+        ([1, 1, 1, 1, 1, 1, 1, 1], [1, 1, 0, 0, 0, 0]),
+        // Columns 2 and 6: rows 1, 2 and 5, and rows 2 and 4.
+        ([0, 0, 1, 0, 0, 0, 1, 0], [0, 1, 0, 0, 1, 1]),
+    ] {
+        assert_eq!(summed(&TOY, 2, &word), Ok(sums.to_vec()), "{word:?}");
+        assert_eq!(check(&TOY, 2, &word), Ok(false));
+    }
+}
+
+#[test]
+fn a_word_of_z_5() {
+    assert_eq!(coded(&FIVE, 5, &[1, 0, 0, 0, 0]), Ok(FIVE_WORD.to_vec()));
+    assert_eq!(check(&FIVE, 5, &FIVE_WORD), Ok(true));
+    assert_eq!(summed(&FIVE, 5, &FIVE_WORD), Ok(vec![0; 15]));
+}
+
+#[test]
+fn the_odd_rows_of_words_of_z_5() {
+    // The rows are those of `FIVE_WORD`.
+    let odd = |word: &[u8]| -> Vec<usize> {
+        let sums = summed(&FIVE, 5, word).unwrap();
+        assert_eq!(check(&FIVE, 5, word), Ok(false));
+        (0..15).filter(|&row| sums[row] == 1).collect()
+    };
+    // x2 is x[i+2] of row 0, x[i+4] of row 5 + 3, and x[i+1] of row 10 + 1.
+    assert_eq!(odd(&changed(&FIVE_WORD, 2)), [0, 8, 11]);
+    // p1 is p[i+1] of rows 0 and 10, and p[i] of row 5 + 1.
+    assert_eq!(odd(&changed(&FIVE_WORD, 6)), [0, 6, 10]);
+    // q4 stands in rows 4 and 9, r0 in rows 5 and 10.
+    assert_eq!(odd(&changed(&FIVE_WORD, 14)), [4, 9]);
+    assert_eq!(odd(&changed(&FIVE_WORD, 15)), [5, 10]);
+    // x0, x1, q0 and r4. Rows 0 to 4: x0 in 3, x1 in 4, q0 in 0. Rows 5 to 9: x0 in 6, x1 in 7, q0 in
+    // 5, r4 in 9. Rows 10 to 14: x0 in 14, x1 in 10, r4 in 14, which is even then.
+    let word = [1, 1, 0, 0, 0, 0, 0, 0, 0, 0, 1, 0, 0, 0, 0, 0, 0, 0, 0, 1];
+    assert_eq!(odd(&word), [0, 3, 4, 5, 6, 7, 9, 10]);
+}
+
+/// A column of a table spread out: "Shift s stands for the z by z matrix whose row i has its one in column
+/// (i+s) mod z. Empty stands for zeros."
+fn column(rows: &Rows, z: usize, place: usize) -> Vec<u8> {
+    let entries = rows.iter().map(|row| row[place / z]);
+    let has_one = |entry: u8, i: usize| entry != EMPTY && (i + usize::from(entry)) % z == place % z;
+    entries
+        .flat_map(|entry| (0..z).map(move |i| u8::from(has_one(entry, i))))
+        .collect()
+}
+
+#[test]
+fn one_changed_place_makes_exactly_its_rows_odd() {
+    let mut random = Random::new(7);
+    for _ in 0..100 {
+        let draft = small(&mut random);
+        let record = draft.octets();
+        for (&z, rows) in draft.sizes.iter().zip(&draft.tables) {
+            let places = bits(usize::from(draft.kb * z), &mut random);
+            let word = coded(&record, u64::from(z), &places).unwrap();
+            for place in 0..word.len() {
+                let sums = summed(&record, u64::from(z), &changed(&word, place));
+                assert_eq!(sums, Ok(column(rows, usize::from(z), place)));
+            }
+        }
+    }
+}
+
+#[test]
+fn a_word_checks_when_all_its_sums_are_0() {
+    let mut random = Random::new(8);
+    let mut counts = [0, 0];
+    for _ in 0..1000 {
+        let draft = small(&mut random);
+        let z = draft.sizes[0];
+        let places = bits(usize::from(draft.kb * z), &mut random);
+        let mut word = coded(&draft.octets(), u64::from(z), &places).unwrap();
+        if random.one_in(2) {
+            word = bits(word.len(), &mut random);
+        }
+        let sums = summed(&draft.octets(), u64::from(z), &word).unwrap();
+        let checks = sums == vec![0; usize::from(draft.m * z)];
+        assert_eq!(check(&draft.octets(), u64::from(z), &word), Ok(checks));
+        counts[usize::from(checks)] += 1;
+    }
+    assert!(counts.iter().all(|&count| count > 300), "{counts:?}");
 }
 
 #[test]
@@ -124,8 +236,7 @@ fn every_coded_block_checks() {
             assert_eq!(word[..places.len()], places);
             assert_eq!(check(&draft.octets(), u64::from(z), &word), Ok(true));
             for place in [0, places.len() - 1, places.len(), word.len() - 1] {
-                let mut changed = word.clone();
-                changed[place] = 1 - changed[place];
+                let changed = changed(&word, place);
                 assert_eq!(check(&draft.octets(), u64::from(z), &changed), Ok(false));
             }
         }
@@ -192,6 +303,7 @@ fn a_z_that_the_profile_does_not_give_is_refused() {
         assert!(coded(&record, z as u64, &places).is_ok());
         let word = vec![0; 24 * z];
         assert_eq!(check(&record, z as u64, &word), Ok(true));
+        assert_eq!(summed(&record, z as u64, &word), Ok(vec![0; 12 * z]));
     }
     for z in [
         0,
@@ -209,6 +321,7 @@ fn a_z_that_the_profile_does_not_give_is_refused() {
     ] {
         assert_eq!(coded(&record, z, &[0; 324]), Err(PARAMETER), "{z}");
         assert_eq!(check(&record, z, &[0; 648]), Err(PARAMETER), "{z}");
+        assert_eq!(summed(&record, z, &[0; 648]), Err(PARAMETER), "{z}");
     }
     let accepted = profile(&record).unwrap();
     assert_eq!(table(&accepted, 54).map(|table| table.z), Ok(54));
@@ -221,11 +334,13 @@ fn a_length_that_the_profile_does_not_give_is_refused() {
     }
     for length in (0..20).filter(|&length| length != 8) {
         assert_eq!(check(&TOY, 2, &vec![0; length]), Err(PARAMETER));
+        assert_eq!(summed(&TOY, 2, &vec![0; length]), Err(PARAMETER));
     }
     // The length that goes with another z of the profile.
     let record = half().octets();
     assert_eq!(coded(&record, 27, &[0; 648]), Err(PARAMETER));
     assert_eq!(check(&record, 27, &[0; 1296]), Err(PARAMETER));
+    assert_eq!(summed(&record, 27, &[0; 1296]), Err(PARAMETER));
 }
 
 #[test]
@@ -244,6 +359,22 @@ fn the_output_has_room_for_the_coded_block() {
 }
 
 #[test]
+fn the_output_has_room_for_the_sums() {
+    let word = changed(&FIVE_WORD, 14);
+    for length in 0..15 {
+        let mut output = vec![7; length];
+        assert_eq!(sums(&FIVE, 5, &word, &mut output), Err(OUTPUT));
+        assert_eq!(output, vec![7; length]);
+    }
+    for length in 15..25 {
+        let mut output = vec![7; length];
+        assert_eq!(sums(&FIVE, 5, &word, &mut output), Ok(15));
+        assert_eq!(output[..15], [0, 0, 0, 0, 1, 0, 0, 0, 0, 1, 0, 0, 0, 0, 0]);
+        assert_eq!(output[15..], vec![7; length - 15]);
+    }
+}
+
+#[test]
 fn octets_over_2_are_refused_in_a_block_and_over_1_in_a_word() {
     for octet in 3..=255 {
         assert_eq!(coded(&TOY, 2, &[octet, 0]), Err(NO_BIT));
@@ -254,6 +385,9 @@ fn octets_over_2_are_refused_in_a_block_and_over_1_in_a_word() {
             let mut word = [0; 8];
             word[place] = octet;
             assert_eq!(check(&TOY, 2, &word), Err(NO_BIT));
+            let mut output = [7; 8];
+            assert_eq!(sums(&TOY, 2, &word, &mut output), Err(NO_BIT));
+            assert_eq!(output, [7; 8]);
         }
     }
 }
@@ -274,4 +408,12 @@ fn the_lowest_number_is_answered() {
     assert_eq!(check(&TOY, 3, &[9]), Err(PARAMETER));
     assert_eq!(check(&TOY, 2, &[9]), Err(PARAMETER));
     assert_eq!(check(&TOY, 2, &[9; 8]), Err(NO_BIT));
+    let sums =
+        |record: &[u8], z, word: &[u8], room: usize| sums(record, z, word, &mut vec![0; room]);
+    assert_eq!(sums(&not_well_formed(), 3, &[9], 0), Err(RECORD));
+    assert_eq!(sums(&no_staircase(), 3, &[9], 0), Err(STAIRCASE));
+    assert_eq!(sums(&TOY, 3, &[9], 0), Err(PARAMETER));
+    assert_eq!(sums(&TOY, 2, &[9], 0), Err(PARAMETER));
+    assert_eq!(sums(&TOY, 2, &[9; 8], 5), Err(OUTPUT));
+    assert_eq!(sums(&TOY, 2, &[9; 8], 6), Err(NO_BIT));
 }

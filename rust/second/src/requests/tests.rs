@@ -122,6 +122,11 @@ fn requests_about_one_block_are_read() {
         request(b"check - 18446744073709551615 x:00ff"),
         read("check", &[octets(&[]), number(u64::MAX), octets(&[0, 255])])
     );
+    let word = octets(&[0, 1, 9]);
+    assert_eq!(
+        request(b"sums 01 2 019 140000"),
+        read("sums", &[octets(&[1]), number(2), word, number(140_000)])
+    );
 }
 
 #[test]
@@ -172,17 +177,114 @@ fn requests_about_shelves_are_read() {
         request(b"hrecv 0102 - 65535 0 8 1 2 019 4"),
         read("hrecv", &[&shelves[..], &receiving].concat())
     );
+    let word = [number(8), octets(&[0, 1, 9])];
+    assert_eq!(
+        request(b"hcheck 0102 - 65535 0 8 019"),
+        read("hcheck", &[&shelves[..], &word].concat())
+    );
+}
+
+/// The kinds that may ask for a checker; no other has an optional word.
+const CHECKING: [&str; 4] = ["check", "recv", "hrecv", "hcheck"];
+
+/// The name of a kind, and for each word of its form one that is a number, bits and packed octets alike.
+fn any_words(name: &str) -> Vec<String> {
+    let kind = KINDS.iter().find(|kind| kind.name == name).unwrap();
+    let words = kind.form.words.iter().map(|_| "00".to_string());
+    std::iter::once(name.to_string()).chain(words).collect()
 }
 
 #[test]
-fn no_request_has_an_optional_word_yet() {
-    for kind in KINDS {
-        let form = " 0".repeat(kind.form.words.len());
-        for ending in [" rv=0", " =", " by=quick ed=1", " q=", " rv=0 # comment"] {
-            let line = [kind.name, &form, ending].concat();
+fn no_other_request_has_an_optional_word() {
+    for kind in KINDS.iter().filter(|kind| !CHECKING.contains(&kind.name)) {
+        let line = any_words(kind.name).join(" ");
+        let read = |ending: &str| request([&line, ending].concat().as_bytes());
+        assert!(read("").is_ok(), "{line}");
+        for ending in [
+            " by=quick",
+            " by=plain",
+            " rv=0",
+            " =",
+            " by=quick ed=1",
+            " q=",
+            " rv=0 # comment",
+        ] {
+            assert_eq!(read(ending), Err(Fault::Words), "{line}{ending}");
+        }
+    }
+}
+
+#[test]
+fn a_checker_is_asked_for() {
+    for name in CHECKING {
+        for (ending, by) in [
+            ("", "quick"),
+            (" by=quick", "quick"),
+            (" by=plain", "plain"),
+            (" by=plain # by=quick", "plain"),
+            (" by=plain   ", "plain"),
+        ] {
+            let line = any_words(name).join(" ") + ending;
+            let (kind, given) = super::request(line.as_bytes()).unwrap().unwrap();
+            assert_eq!((kind.name, given.alternative_of("by")), (name, by));
+            assert_eq!(given.values().len(), kind.form.words.len());
+        }
+    }
+}
+
+#[test]
+fn a_checker_is_one_of_the_two_and_is_asked_for_once() {
+    for name in CHECKING {
+        for ending in [
+            "by=slow",
+            "by=",
+            "by=Plain",
+            "by=plain=",
+            "BY=plain",
+            "rv=0",
+            "by=plain rv=0",
+            "rv=0 by=plain",
+            "by=plain by=plain",
+            "by=quick by=plain",
+            "by=slow by=plain",
+            "by",
+            " by=plain",
+        ] {
+            let line = any_words(name).join(" ") + " " + ending;
             assert_eq!(request(line.as_bytes()), Err(Fault::Words), "{line}");
         }
     }
+}
+
+#[test]
+fn a_checker_is_asked_for_behind_all_other_words() {
+    for name in CHECKING {
+        let words = any_words(name);
+        for place in 1..words.len() {
+            let mut more = words.clone();
+            more.insert(place, "by=plain".to_string());
+            let line = more.join(" ");
+            assert_eq!(request(line.as_bytes()), Err(Fault::Words), "{line}");
+        }
+        // In the place of another word it is a word like any other.
+        for place in 1..words.len() - 1 {
+            let mut other = words.clone();
+            other[place] = "by=plain".to_string();
+            let read = request(other.join(" ").as_bytes());
+            assert!(!matches!(read, Ok(_) | Err(Fault::Words)), "{other:?}");
+        }
+    }
+}
+
+#[test]
+fn words_go_before_what_an_optional_word_holds() {
+    assert_eq!(request(b"check q q q by=slow"), Err(Fault::Hex));
+    assert_eq!(request(b"check 00 q q by=slow"), Err(Fault::Number));
+    assert_eq!(request(b"check 00 2 q by=slow"), Err(Fault::Bits));
+    assert_eq!(request(b"check 00 2 0 by=slow"), Err(Fault::Words));
+    // An unknown or doubled one goes before them.
+    assert_eq!(request(b"check q q q rv=0"), Err(Fault::Words));
+    assert_eq!(request(b"check q q q by=plain by=plain"), Err(Fault::Words));
 }
 
 #[test]
@@ -239,12 +341,14 @@ fn every_request_has_its_count_of_words() {
         ("plan", 2),
         ("encode", 4),
         ("check", 3),
+        ("sums", 4),
         ("rate", 3),
         ("send", 6),
         ("recv", 6),
         ("lookup", 4),
         ("hsend", 9),
         ("hrecv", 9),
+        ("hcheck", 6),
     ] {
         for words in (0..12).filter(|&words| words != count) {
             let line = [name, &" 0".repeat(words)].concat();

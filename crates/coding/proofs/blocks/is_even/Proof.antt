@@ -29,8 +29,8 @@ table-requires c κs =
     let k = some-fields R (a .plan) (st .pre .0) in
     (k .accepted, index-below-t R (a .plan) k)
 
-checks-requires : tie.Need-checks-requires
-checks-requires c κs =
+checks-by-requires : tie.Need-checks-by-requires
+checks-by-requires c κs =
     let st = c .before .before .before .before .before in
     let a = st .args in
     let R = now (a .profile) in
@@ -38,7 +38,7 @@ checks-requires c κs =
     rw (c .table .ensures, c .before .columns .ensures .0, c .before .before .rows .ensures .0) (shape-here R (a .plan) k, st .pre .1)
 
 returns : tie.Need-returns
-returns c = rw (c .before .table .ensures, c .before .before .columns .ensures .0, c .before .before .before .rows .ensures .0) at (c .checks .ensures)
+returns c = rw (c .before .table .ensures, c .before .before .columns .ensures .0, c .before .before .before .rows .ensures .0) at (c .checks-by .ensures)
 
 pub is-even-spec : {M : Type 1} → statement M
-is-even-spec = tie.close (tie.spec rows-requires columns-requires table-requires checks-requires returns)
+is-even-spec = tie.close (tie.spec rows-requires columns-requires table-requires checks-by-requires returns)

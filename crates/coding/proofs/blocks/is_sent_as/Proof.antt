@@ -15,15 +15,15 @@ use Rattle.coding.proofs.ReceivedBlock.{planned-sent-as, gathered-own}
 use Rattle.coding.proofs.blocks.is_sent_as.Statement.{statement}
 use Rattle.coding.proofs.blocks.is_sent_as.Tie as tie
 
-sub-t9 : tie.Need-sub-t9
-sub-t9 c =
+sub-t10 : tie.Need-sub-t10
+sub-t10 c =
     let st = c .before .before .before in
     let a = st .args in
     let R = now (a .profile) in
     omega (arith, word-room R (a .plan) (some-fields R (a .plan) (st .pre .some)), st .pre .fits)
 
-add-t10 : tie.Need-add-t10
-add-t10 c = search needs
+add-t11 : tie.Need-add-t11
+add-t11 c = search needs
 
 copies-agree-requires : tie.Need-copies-agree-requires
 copies-agree-requires c κs = search needs
@@ -69,4 +69,4 @@ returns-2 c =
     }
 
 pub is-sent-as-spec : {M : Type 1} → statement M
-is-sent-as-spec = tie.close (tie.spec sub-t9 add-t10 copies-agree-requires returns gather-requires is-even-requires same-length returns-2)
+is-sent-as-spec = tie.close (tie.spec sub-t10 add-t11 copies-agree-requires returns gather-requires is-even-requires same-length returns-2)

@@ -19,11 +19,11 @@ use Rattle.coding.proofs.receiving.rebuild.Statement.{statement}
 use Rattle.coding.proofs.receiving.rebuild.Tie as tie
 
 abbrev Inv-loop : tie.InvT-loop
-Inv-loop profile plan bits terms word₀ room₀ g b c start₀ at₀ r₀ word room start at r =
+Inv-loop profile plan bits terms checker word₀ room₀ g b c start₀ at₀ r₀ word room start at r =
     (r ≤ plan .blocks) × (length word ≡ length word₀) × Walk profile terms bits (plan .bits) room₀ r start at room
 
 abbrev μ-loop : tie.MeasureT-loop
-μ-loop profile plan bits terms word₀ room₀ g b c start₀ at₀ r₀ word room start at r = plan .blocks - r
+μ-loop profile plan bits terms checker word₀ room₀ g b c start₀ at₀ r₀ word room start at r = plan .blocks - r
 
 loop-holds : tie.Need-loop-holds Inv-loop μ-loop
 loop-holds c = let st = c .before .before .before .before in
@@ -159,7 +159,7 @@ lay-requires c κs = let l = c .before .before .before .before .before .before .
     let e = c .before .before .before .before .before .before .before .before .before .share-of in
     let mine = share-is R (a .plan) k (a .terms) (length s) (i .r) (e .result .0) (ap (λ (x : CodedBits). x .0) (e .ensures)) in
     let fits = share-fits R (a .plan) k (a .terms) (length s) given (i .r) (i .at) (e .result .0) order (i .inv .2 .stands) mine in (
-      omega (arith, own-room R (a .plan) k (i .r) (own .result) (own .ensures), word-room R (a .plan) k, c .before .before .before .before .before .is-sent-as .kept .1 .1 .1 .1 .0, i .inv .1, st .pre .1),
+      omega (arith, own-room R (a .plan) k (i .r) (own .result) (own .ensures), word-room R (a .plan) k, c .before .before .before .before .before .is-sent-as .kept .1 .1 .1 .1 .1 .0, i .inv .1, st .pre .1),
       omega (arith, own-fits R (a .plan) k (i .r) (i .start) (own .result) order (i .inv .2 .starts) (own .ensures), k .cut .bits-high, i .inv .2 .same, st .pre .2),
     )
 
@@ -223,11 +223,11 @@ loop-again c = let l = c .before .before .before .before .before .before .before
     let told = rw whole at (is .ensures .is) in
     let yes = not-false _ (c .before .before .before .before .before .before .if1 .left) in
     let less : own .result ≤ e .result .0 = omega (arith, room-here R (a .terms) s (a .plan) h (i .r) (own .result) (e .result .0) order (own .ensures) mine) in
-    let front : take (own .result) (is .last .1 .1 .1 .1 .0) ≡ take (own .result) (drop (i .at) s) = (rw whole at (is .ensures .front yes)) ∙ take-take (own .result) (e .result .0) (drop (i .at) s) less in (
+    let front : take (own .result) (is .last .1 .1 .1 .1 .1 .0) ≡ take (own .result) (drop (i .at) s) = (rw whole at (is .ensures .front yes)) ∙ take-take (own .result) (e .result .0) (drop (i .at) s) less in (
       omega (arith, order),
-      is .kept .1 .1 .1 .1 .0 ∙ i .inv .1,
+      is .kept .1 .1 .1 .1 .1 .0 ∙ i .inv .1,
       walk-more R (a .terms) s (a .plan) h (i .r) (i .at) (e .result .0) (own .result) order (i .inv .2 .stands) mine (own .ensures)
-          (is .result) told (now (a .room)) (i .room) _ (i .start) yes (st .pre .2) (i .inv .2) (laid-from s (is .last .1 .1 .1 .1 .0) (i .room) _ (i .at) (own .result) (i .start) front (c .before .before .before .lay .ensures)),
+          (is .result) told (now (a .room)) (i .room) _ (i .start) yes (st .pre .2) (i .inv .2) (laid-from s (is .last .1 .1 .1 .1 .1 .0) (i .room) _ (i .at) (own .result) (i .start) front (c .before .before .before .lay .ensures)),
     )
 
 same-length-3 : tie.Need-same-length-3 Inv-loop μ-loop

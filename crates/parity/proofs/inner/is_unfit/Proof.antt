@@ -1,4 +1,4 @@
--- `parity::gate::is_unfit` meets its contract.
+-- `parity::inner::is_unfit` meets its contract.
 use mathlib.Core.Path.{sym, _∙_}
 use native.Mathlib.Omega.{arith}
 use native.Mathlib.Nat.{mul-le-mul}
@@ -6,8 +6,8 @@ use denote.Ref.{now}
 use borrow.Author.Needs.{needs}
 use Rattle.parity.proofs.Ready.{ready}
 use Rattle.parity.proofs.Answers.{size-none, size-some, unfit-size, unfit-length}
-use Rattle.parity.proofs.gate.is_unfit.Statement.{statement}
-use Rattle.parity.proofs.gate.is_unfit.Tie as tie
+use Rattle.parity.proofs.inner.is_unfit.Statement.{statement}
+use Rattle.parity.proofs.inner.is_unfit.Tie as tie
 
 t-requires : tie.Need-t-requires
 t-requires c κs = search needs
