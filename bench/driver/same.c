@@ -156,7 +156,7 @@ void compare_checkers(void) {
             asked++;
             free(broken);
         }
-    printf("%ld calls and as many with one bit changed, by either checker: %ld answered differently. Answered numbers:\n",
+    printf("%ld calls and as many with one bit changed, by either checker: %ld answered differently. Answered numbers, and how often (99: a word does not check):\n",
            asked, differ);
     print_seen(seen);
     if (differ)

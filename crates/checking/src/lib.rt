@@ -1,11 +1,10 @@
 // Checking one word of bits, by the quick checker or by the plain one, and the sums of its rows.
 mod gate;
 pub mod inner;
-pub mod plain;
+mod plain;
 
 use bits::number::DONE;
 use bits::number::Written;
-ghost use mathlib.Core.Path.{_≡_};
 ghost use Rattle.checking.specs.Promises.{WordChecked, RowsSummed};
 
 // Which checker is asked: the quick one adds up shifted groups of places, the plain one goes through the spread-out matrix.

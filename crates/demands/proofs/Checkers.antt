@@ -1,10 +1,10 @@
 -- "a checker that they can read next to the printed matrix. It goes bit by bit through the spread-out matrix, with no rotation of whole groups. For every
 -- profile, z and word it is to say the same as the one in use, proved once over z. Hosted calls may ask for either." (document 02, CR 4) No promise says
--- which checker was asked, and every call that takes the choice meets its promise with either. So two answers to the same, each by whichever checker,
+-- which checker was asked, and every call that takes the choice meets its promise with either. So two answers to the same call, each by whichever checker,
 -- are equal: for every record, every z and all octets at once.
 use mathlib.Core.Path.{_≡_, refl, sym, ap, _∙_}
 use mathlib.Core.Bool.{Bool, true, false}
-use mathlib.Core.List.{List, [], _∷_, _++_}
+use mathlib.Core.List.{List, [], _∷_}
 use mathlib.Core.Logic.{_⊎_}
 use Prim.Native.Nat.{ℕ, _*_, _<_}
 use lib.Dec.{eqb}
@@ -110,7 +110,7 @@ module _ {R : List ℕ} {z : ℕ} {word out : List ℕ} {s : Written} {o : List 
         checks-is ∙ all-of (rows R * z) (rowEven T (columns R) z word) (λ row l. row-is-even row l ∙ ap (λ (x : ℕ). eqb x 0) (h row l))
 
 -- ---- no statement is empty: a table with z 5, which tells a shift from one the other way round, as z 2 does not; the word of docs/CHECKER.md that checks,
--- the same with place 6 turned over, and each number of `row_sums`
+-- the same with place 6 turned over, and 5, 8, 11, 12 and 0 of `row_sums`
 
 abbrev five : List ℕ
 five = 2 ∷ 1 ∷ 0 ∷ 255 ∷ 4 ∷ 0 ∷ 0 ∷ 0 ∷ 1 ∷ 1 ∷ 255 ∷ 0 ∷ []

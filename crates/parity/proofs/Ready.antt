@@ -1,6 +1,6 @@
 -- What a profile that is judged with 0 gives: tables of the right shape, which are staircases; and what coding by them comes to.
 use mathlib.Core.Path.{_≡_, ap, _∙_}
-use mathlib.Core.Bool.{Bool, true}
+use mathlib.Core.Bool.{true}
 use mathlib.Core.List.{List}
 use Prim.Native.Nat.{ℕ, _*_, _≤_, _<_}
 use native.Mathlib.Nat.{mul-le-mul}
@@ -15,7 +15,6 @@ use Rattle.profile.specs.Promises.{judged}
 use Rattle.profile.proofs.Accepted.{accepted}
 use Rattle.profile.proofs.Shape.{rows-is, columns-is}
 use Rattle.profile.proofs.Stairs.{staircase-is}
-use Rattle.parity.specs.Matrix.{checks}
 use Rattle.parity.specs.Coded.{coded}
 use Rattle.parity.specs.Promises.{hasSize, tableFor}
 use Rattle.parity.specs.steps.Gate.{Taken}
@@ -87,9 +86,6 @@ module _ (R : List ℕ) (z' : ℕ) (e : judged R ≡ 0) (h : hasSize R z' ≡ tr
       rw c-is (mul-le-mul (shape .columns-most) (shape .z-most))
 
   module _ (n : ℕ) (T : List ℕ) (table-is : T ≡ tableFor R z') where
-    pub shape-read : n ≡ rows R → Shape T n c z'
-    shape-read n-is = rw (table-is, n-is, c-is) (ready R z' e h .shape)
-
     pub codable-read : (k : ℕ) → k ≡ kb R → n ≡ m R → (w : List ℕ) → length w ≡ columns R * z' → Codable T k n c z' w
     codable-read k k-is n-is w long = rw (table-is, k-is, n-is, c-is) (ready R z' e h .codable w long)
 

@@ -1,4 +1,4 @@
-// Coding and checking where the table is known to go with z and the word's length is right.
+// For the crates above: whether a z and a length are the profile's; coding and checking where the table is known to go with z and the word's length is right.
 use crate::stairs;
 use crate::sums;
 ghost use mathlib.Core.Path.{_≡_};

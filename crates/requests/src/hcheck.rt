@@ -1,4 +1,4 @@
-// The request `hcheck PRIVATE PUBLIC TENANT PROFILE Z BITS by=quick|plain`: whether the bits are a word of a tenant that checks.
+// The request `hcheck PRIVATE PUBLIC TENANT PROFILE Z BITS by=quick|plain`: whether a tenant's bits are a word that checks.
 use crate::answers::Answer;
 use crate::checker;
 use text::forms::WORDS;

@@ -203,7 +203,7 @@ mod tests {
             let lines = generated(Some(kind), 4, 2000);
             let (yes, no) = (answered(&lines, "0 1"), answered(&lines, "0 0"));
             let done = yes + no;
-            // Of the lines that are done more than half are words that test, and more than a quarter
+            // Of the lines that are done more than half are words that test or check, and more than a quarter
             // others.
             assert!(3 * done > 2000, "{kind}: {done}");
             assert!(2 * yes > done && 4 * no > done, "{kind}: {yes} {no}");

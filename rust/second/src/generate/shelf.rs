@@ -32,7 +32,7 @@ impl Shelves {
         Shelves::among(others, record, any_record, random)
     }
 
-    /// The same on shelves with few records, and with ones of one's own where the record could be looked
+    /// The same on shelves with few records, and with records that the caller makes where the record could be looked
     /// for wrongly.
     pub fn with_few(
         record: &[u8],

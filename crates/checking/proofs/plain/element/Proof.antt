@@ -2,7 +2,6 @@
 use mathlib.Core.Path.{refl}
 use native.Mathlib.Nat.{mod-lt}
 use native.Mathlib.Omega.{arith}
-use denote.Ref.{now}
 use borrow.Author.Needs.{needs}
 use Rattle.checking.proofs.Elements.{entry-in, element-empty, element-one, element-zero}
 use Rattle.checking.proofs.plain.element.Statement.{statement}

@@ -1,7 +1,7 @@
 -- `checking::plain::row_sum` meets its contract. The loop's invariant: the sum is that over the places before one.
 use mathlib.Core.Path.{_≡_}
 use Prim.Native.Nat.{_-_, _≤_, _<_}
-use native.Mathlib.Nat.{mul-le-mul, mod-lt}
+use native.Mathlib.Nat.{mul-le-mul}
 use native.Mathlib.Omega.{arith}
 use borrow.Author.Needs.{needs}
 use Rattle.checking.proofs.Elements.{summed, summed-none, summed-more, product-few, summed-all}
