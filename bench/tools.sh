@@ -3,7 +3,7 @@ set -eu
 here=$(dirname "$(readlink -f "$0")")
 top=$(dirname "$here")
 work=$top/target/bench
-shelf=$top/shelves/public.shelf
+shelves=$top/shelves
 machine=$(uname -m)
 
 say() { echo "bench: $*" >&2; }
@@ -48,7 +48,7 @@ counted() {
 
 # counts [JOB]: the table of instructions.
 counts() {
-    counted "$work/x86/marks" "$work/x86/driver" "$shelf" count ${1:+"$1"} >"$work/x86/jobs"
+    counted "$work/x86/marks" "$work/x86/driver" "$shelves" count ${1:+"$1"} >"$work/x86/jobs"
     awk -f "$here/counts.awk" "$work/x86/marks" "$work/x86/jobs"
 }
 
@@ -69,7 +69,7 @@ machine_and_compilers() {
 
 # Nothing is measured where the sides answer differently, on any job or on a broken one. What was compared is kept in `same`.
 assert_same() {
-    if ! "$work/native/driver" "$shelf" same 100000 >"$work/same"; then
+    if ! "$work/native/driver" "$shelves" same 100000 >"$work/same"; then
         cat "$work/same" >&2
         fail "the sides do not answer the same, so nothing is measured"
     fi

@@ -75,8 +75,10 @@ pub unsafe extern "C" fn limit_plan(record: *const u8, octets: usize, length: us
 macro_rules! matches {
     ($($name:ident $call:path;)*) => { $(
         #[no_mangle]
-        pub unsafe extern "C" fn $name(coded: *const u8, count: usize, e: usize, out: *mut u8, room: usize) -> u32 {
-            number($call(read(coded, count), e, write(out, room)))
+        pub unsafe extern "C" fn $name(
+            coded: *const u8, count: usize, kind: usize, rv: usize, e: usize, out: *mut u8, room: usize,
+        ) -> u32 {
+            number($call(read(coded, count), kind, rv, e, write(out, room)))
         }
     )* };
 }
@@ -125,9 +127,9 @@ macro_rules! sends {
         #[no_mangle]
         pub unsafe extern "C" fn $name(
             record: *const u8, octets: usize, block: *const u8, length: usize,
-            nl: usize, qm: usize, g: usize, out: *mut u8, room: usize,
+            nl: usize, qm: usize, rv: usize, g: usize, out: *mut u8, room: usize,
         ) -> u32 {
-            number($call(read(record, octets), read(block, length), Terms { nl, qm, g }, write(out, room)))
+            number($call(read(record, octets), read(block, length), Terms { nl, qm, rv, g }, write(out, room)))
         }
     )* };
 }
@@ -141,10 +143,10 @@ macro_rules! receives {
     ($($name:ident $call:path;)*) => { $(
         #[no_mangle]
         pub unsafe extern "C" fn $name(
-            record: *const u8, octets: usize, a: usize, nl: usize, qm: usize,
+            record: *const u8, octets: usize, a: usize, nl: usize, qm: usize, rv: usize,
             bits: *const u8, g: usize, out: *mut u8, room: usize,
         ) -> u32 {
-            number($call(read(record, octets), a, Terms { nl, qm, g }, read(bits, g), write(out, room)))
+            number($call(read(record, octets), a, Terms { nl, qm, rv, g }, read(bits, g), write(out, room)))
         }
     )* };
 }
@@ -166,19 +168,21 @@ macro_rules! hosted {
         #[no_mangle]
         pub unsafe extern "C" fn $send(
             private: *const u8, own: usize, public: *const u8, others: usize, tenant: u16, profile: u16,
-            block: *const u8, length: usize, nl: usize, qm: usize, g: usize, out: *mut u8, room: usize,
+            block: *const u8, length: usize, nl: usize, qm: usize, rv: usize, g: usize, out: *mut u8, room: usize,
         ) -> u32 {
             let found = $found(read(private, own), read(public, others), tenant, profile);
-            number(found.and_then(|record| $sent(record, read(block, length), Terms { nl, qm, g }, write(out, room))))
+            let terms = Terms { nl, qm, rv, g };
+            number(found.and_then(|record| $sent(record, read(block, length), terms, write(out, room))))
         }
 
         #[no_mangle]
         pub unsafe extern "C" fn $receive(
             private: *const u8, own: usize, public: *const u8, others: usize, tenant: u16, profile: u16,
-            a: usize, nl: usize, qm: usize, bits: *const u8, g: usize, out: *mut u8, room: usize,
+            a: usize, nl: usize, qm: usize, rv: usize, bits: *const u8, g: usize, out: *mut u8, room: usize,
         ) -> u32 {
             let found = $found(read(private, own), read(public, others), tenant, profile);
-            number(found.and_then(|record| $received(record, a, Terms { nl, qm, g }, read(bits, g), write(out, room))))
+            let terms = Terms { nl, qm, rv, g };
+            number(found.and_then(|record| $received(record, a, terms, read(bits, g), write(out, room))))
         }
     )* };
 }

@@ -1,30 +1,41 @@
-//! What both baselines share: the numbers of a judged record, how a block is cut, and the refusals 7 to 10.
+//! What both baselines share: the numbers of a judged record, how a block is cut and from where it is sent, and the
+//! refusals 7 to 10 and 16.
 
 /// Two octets, the high one first.
 pub fn number(octets: &[u8], at: usize) -> usize {
     u16::from_be_bytes([octets[at], octets[at + 1]]) as usize
 }
 
+/// The octets in front of the sizes.
+pub const HEAD: usize = 10;
+
 /// A record that was judged.
 pub struct Profile<'a> {
     pub kb: usize,
     pub m: usize,
+    pub rows: usize,
+    kind: usize,
     sizes: usize,
     octets: &'a [u8],
 }
 
 impl<'a> Profile<'a> {
     pub fn of(octets: &'a [u8]) -> Self {
-        Profile { kb: number(octets, 0), m: number(octets, 2), sizes: number(octets, 4), octets }
+        let [kb, m, x, kind, sizes] = [0, 2, 4, 6, 8].map(|at| number(octets, at));
+        Profile { kb, m, rows: m + x, kind, sizes, octets }
     }
 
     fn z(&self, index: usize) -> usize {
-        number(self.octets, 6 + 4 * index)
+        number(self.octets, HEAD + 4 * index)
+    }
+
+    pub fn columns(&self) -> usize {
+        self.kb + self.rows
     }
 
     pub fn table(&self, index: usize) -> &'a [u8] {
-        let length = self.m * (self.kb + self.m);
-        let start = 6 + 4 * self.sizes + index * length;
+        let length = self.rows * self.columns();
+        let start = HEAD + 4 * self.sizes + index * length;
         &self.octets[start..start + length]
     }
 
@@ -35,15 +46,35 @@ impl<'a> Profile<'a> {
 
     /// The coded places of a block of this size.
     pub fn coded(&self, z: usize) -> usize {
-        (self.kb + self.m) * z
+        self.columns() * z
+    }
+
+    /// The place from which a block of this size is sent.
+    pub fn start(&self, z: usize, rv: usize) -> usize {
+        start(self.kind, rv, self.coded(z))
     }
 }
 
-/// N_L, Q_m and G.
+/// Whether a version is none, or none of the type.
+pub fn misversioned(kind: usize, rv: usize) -> bool {
+    rv > 3 || kind == 1 && rv != 0
+}
+
+/// The place from which so many coded places are sent.
+pub fn start(kind: usize, rv: usize, coded: usize) -> usize {
+    if kind == 2 {
+        coded / 4 * rv
+    } else {
+        0
+    }
+}
+
+/// N_L, Q_m, the redundancy version and G.
 #[derive(Clone, Copy)]
 pub struct Terms {
     pub nl: usize,
     pub qm: usize,
+    pub rv: usize,
     pub g: usize,
 }
 
@@ -126,9 +157,12 @@ pub fn planned(profile: &Profile, octets: usize) -> Result<Plan, u32> {
     cut(profile, octets)
 }
 
-/// The plan of a transfer, or the first of 7 to 10.
+/// The plan of a transfer, or the first of 7, 16 and 8 to 10.
 pub fn accepted(profile: &Profile, octets: usize, terms: Terms) -> Result<Plan, u32> {
     length_accepted(octets)?;
+    if misversioned(profile.kind, terms.rv) {
+        return Err(16);
+    }
     if terms.refused() {
         return Err(8);
     }

@@ -69,9 +69,9 @@ static uint64_t run_hosted(const struct side *s, const struct job *j) {
         return s->lookup(j->private, j->private_length, j->public, j->public_length, j->tenant, j->profile);
     if (j->kind == HOSTED_SEND)
         return s->hosted_send(j->private, j->private_length, j->public, j->public_length, j->tenant, j->profile, j->input,
-                              j->input_length, j->nl, j->qm, j->g, output, j->room);
+                              j->input_length, j->nl, j->qm, j->rv, j->g, output, j->room);
     return s->hosted_receive(j->private, j->private_length, j->public, j->public_length, j->tenant, j->profile, j->a, j->nl,
-                             j->qm, j->input, j->input_length, output, j->room);
+                             j->qm, j->rv, j->input, j->input_length, output, j->room);
 }
 
 uint64_t run(const struct side *s, const struct job *j) {
@@ -79,14 +79,14 @@ uint64_t run(const struct side *s, const struct job *j) {
     case CRC: return s->crc(j->z, j->input, j->input_length);
     case CRC_OF_BITS: return s->crc_of_bits(j->z, j->input, j->input_length);
     case PLAN: return s->plan(j->record, j->record_length, j->z);
-    case MATCH: return s->match(j->input, j->input_length, j->g, output, j->room);
+    case MATCH: return s->match(j->input, j->input_length, j->z, j->rv, j->g, output, j->room);
     case JUDGE: return s->judge(j->record, j->record_length);
     case CODE: return s->code(j->record, j->record_length, j->z, j->input, j->input_length, output, j->room);
     case CHECK: return s->check(j->record, j->record_length, j->z, j->input, j->input_length);
     case SEND:
-        return s->send(j->record, j->record_length, j->input, j->input_length, j->nl, j->qm, j->g, output, j->room);
+        return s->send(j->record, j->record_length, j->input, j->input_length, j->nl, j->qm, j->rv, j->g, output, j->room);
     case RECEIVE:
-        return s->receive(j->record, j->record_length, j->a, j->nl, j->qm, j->input, j->input_length, output, j->room);
+        return s->receive(j->record, j->record_length, j->a, j->nl, j->qm, j->rv, j->input, j->input_length, output, j->room);
     default: return run_hosted(s, j);
     }
 }

@@ -11,16 +11,18 @@ typedef const uint8_t *in;
 typedef uint32_t crc_call(size_t width, in octets, size_t count);
 typedef uint32_t judge_call(in record, size_t length);
 typedef size_t plan_call(in record, size_t length, size_t octets);
-typedef uint32_t match_call(in coded, size_t count, size_t e, u8 *out, size_t room);
+typedef uint32_t match_call(in coded, size_t count, size_t type, size_t rv, size_t e, u8 *out, size_t room);
 typedef uint32_t code_call(in record, size_t length, size_t z, in places, size_t count, u8 *out, size_t room);
 typedef uint32_t check_call(in record, size_t length, size_t z, in word, size_t count);
-typedef uint32_t send_call(in record, size_t length, in block, size_t octets, size_t nl, size_t qm, size_t g, u8 *out, size_t room);
-typedef uint32_t receive_call(in record, size_t length, size_t a, size_t nl, size_t qm, in bits, size_t g, u8 *out, size_t room);
+typedef uint32_t send_call(in record, size_t length, in block, size_t octets, size_t nl, size_t qm, size_t rv, size_t g, u8 *out,
+                           size_t room);
+typedef uint32_t receive_call(in record, size_t length, size_t a, size_t nl, size_t qm, size_t rv, in bits, size_t g, u8 *out,
+                              size_t room);
 typedef size_t lookup_call(in private, size_t own, in public, size_t others, uint16_t tenant, uint16_t profile);
 typedef uint32_t hosted_send_call(in private, size_t own, in public, size_t others, uint16_t tenant, uint16_t profile,
-                                  in block, size_t octets, size_t nl, size_t qm, size_t g, u8 *out, size_t room);
+                                  in block, size_t octets, size_t nl, size_t qm, size_t rv, size_t g, u8 *out, size_t room);
 typedef uint32_t hosted_receive_call(in private, size_t own, in public, size_t others, uint16_t tenant, uint16_t profile,
-                                     size_t a, size_t nl, size_t qm, in bits, size_t g, u8 *out, size_t room);
+                                     size_t a, size_t nl, size_t qm, size_t rv, in bits, size_t g, u8 *out, size_t room);
 
 /* The product or a baseline. A call that it has no shape of its own for is null. */
 struct side {
@@ -59,8 +61,8 @@ struct job {
     in private, public;
     size_t private_length, public_length;
     uint16_t tenant, profile;
-    size_t z; /* of a checksum: its width; of a plan: the octets */
-    size_t nl, qm, g, a;
+    size_t z; /* of a checksum: its width; of a plan: the octets; of a matching: the type */
+    size_t nl, qm, rv, g, a;
     u8 *input; /* the first of the inputs */
     u8 *inputs[VARIANTS];
     size_t input_length;
@@ -80,14 +82,19 @@ uint64_t run(const struct side *side, const struct job *job);
 /* The next of a fixed row of random numbers. */
 uint64_t drawn(void);
 
-/* Makes all jobs, with the records of a public shelf. */
-void make_jobs(const char *shelf);
+/* Makes all jobs, with the records of the shelves in a folder. */
+void make_jobs(const char *shelves);
 
 /* Whether a job is asked for: each is where `only` is null. */
 int is_asked(const struct job *job, const char *only);
 
+/* The numbers that were answered, and how often. */
+enum { NUMBERS = 100 };
+void print_seen(const long seen[NUMBERS]);
+
 int same(const struct job *job);
 void compare_broken(long count);
+void compare_shapes(long count);
 void compare_checkers(void);
 void print_times(int rounds, const char *only);
 /* For a program to read, a line for each side: job, side, nanoseconds, and what the product's time is over them. */

@@ -71,24 +71,26 @@ static void add_checksum(enum kind kind, size_t width, size_t count) {
     give_input(job, count, single ? 1 : 255);
 }
 
-/* Matching a coded block of 1,944 places, of which 120 in a row are marked. */
-static void add_matching(size_t e) {
-    struct job *job = add(MATCH, named("match 1944", e));
+/* Matching a coded block of so many places, of which 120 in a row are marked. */
+static void add_matching(const char *name, size_t places, size_t e, size_t type, size_t rv) {
+    struct job *job = add(MATCH, name);
     job->g = e;
-    give_input(job, 1944, 1);
+    job->z = type;
+    job->rv = rv;
+    give_input(job, places, 1);
     for (int v = 0; v < VARIANTS; v++)
         memset(job->inputs[v] + 1500, 2, 120);
 }
 
 /* Coding a block, and checking what was coded. */
 static void add_coding(const char *coding, const char *checking, struct record record, size_t z) {
-    size_t kb = number_at(record.octets, 0), m = number_at(record.octets, 2);
+    size_t kb = number_at(record.octets, 0), rows = number_at(record.octets, 2) + number_at(record.octets, 4);
     struct job *code = add_with_record(CODE, coding, record);
     code->z = z;
     give_input(code, kb * z, 1);
     struct job *check = add_with_record(CHECK, checking, record);
     check->z = z;
-    give_output_of(check, *code, (kb + m) * z);
+    give_output_of(check, *code, (kb + rows) * z);
 }
 
 static void add_record(size_t number) {
@@ -104,16 +106,22 @@ static void add_record(size_t number) {
 }
 
 /* Sending a block, and receiving what was sent. */
-static void add_transfer(const char *what, struct record record, size_t octets, size_t g) {
+static void add_version(const char *what, struct record record, size_t octets, size_t g, size_t rv) {
     char name[48];
     snprintf(name, sizeof name, "send %s", what);
     struct job *send = add_with_record(SEND, name, record);
     send->g = g;
+    send->rv = rv;
     give_input(send, octets, 255);
     snprintf(name, sizeof name, "receive %s", what);
     struct job *receive = add_with_record(RECEIVE, name, record);
     receive->a = 8 * octets;
+    receive->rv = rv;
     give_output_of(receive, *send, g);
+}
+
+static void add_transfer(const char *what, struct record record, size_t octets, size_t g) {
+    add_version(what, record, octets, g, 0);
 }
 
 /* Into just the room that it needs, three times that, and the most there is. */
@@ -178,6 +186,17 @@ static void add_shorter_checksums(void) {
     add_checksum(CRC, 8, 2048);
 }
 
+/* Type 2: the largest words there are, sent from their beginning and from their middle; and blocks that are sent from inside their filler. */
+static void add_type_2(void) {
+    struct record record = trial(), short_one = as_type_2(record_of(56));
+    add_matching("match 4860 4740 rv2", 4860, 4740, 2, 2);
+    add_with_record(JUDGE, "judge trial", record);
+    add_coding("code trial z81", "check trial z81", record, 81);
+    add_version("trial 2048 exact rv0", record, 2048, least_g(record, 2048), 0);
+    add_version("trial 2048 exact rv2", record, 2048, least_g(record, 2048), 2);
+    add_version("type2 56 exact rv3", short_one, 56, least_g(short_one, 56), 3);
+}
+
 static void ask_both(const char *name) {
     for (int k = 0; k < job_count; k++)
         if (!strcmp(jobs[k].name, name)) {
@@ -187,22 +206,23 @@ static void ask_both(const char *name) {
     exit(3);
 }
 
-/* With a record in use, and with the widest, which has the largest word there is. */
+/* With a record in use, with the widest of Type 1, and with the trial one, which has the largest word there is. */
 static void ask_both_checkers(void) {
     ask_both("check 56 z81");
     ask_both("check wide z81");
+    ask_both("check trial z81");
     ask_both("receive 56 2048 exact");
     ask_both("receive wide 2048 exact");
 }
 
-void make_jobs(const char *shelf) {
-    read_shelf(shelf);
+void make_jobs(const char *shelves) {
+    read_shelves(shelves);
     add_checksum(CRC, 24, 2048);
     add_checksum(CRC, 16, 2048);
     add_checksum(CRC, 24, 56);
     add_checksum(CRC_OF_BITS, 24, 16384);
-    add_matching(1824);
-    add_matching(65536);
+    add_matching("match 1944 1824", 1944, 1824, 1, 0);
+    add_matching("match 1944 65536", 1944, 65536, 1, 0);
     add_record(56);
     add_record(34);
     add_transfers(56, 2048);
@@ -218,5 +238,6 @@ void make_jobs(const char *shelf) {
     add_growing();
     /* At the end, so that the jobs before have the inputs that they had. */
     add_shorter_checksums();
+    add_type_2();
     ask_both_checkers();
 }

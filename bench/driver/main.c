@@ -1,4 +1,4 @@
-/* Puts the same calls to the product and to the baselines: driver SHELF same COUNT | time ROUNDS [JOB] | medians ROUNDS [JOB]
+/* Puts the same calls to the product and to the baselines: driver SHELVES same COUNT | time ROUNDS [JOB] | medians ROUNDS [JOB]
    | checkers ROUNDS [JOB] | count [JOB] | where JOB | stack [JOB] */
 #include "calls.h"
 #include <stdio.h>
@@ -15,6 +15,7 @@ int main(int count, char **words) {
             return 1;
     if (!strcmp(command, "same") && first) {
         compare_broken(atol(first));
+        compare_shapes(atol(first) / 20);
         compare_checkers();
     } else if (!strcmp(command, "time") && first)
         print_times(atoi(first), second);

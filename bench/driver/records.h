@@ -8,15 +8,23 @@ struct record {
     size_t length;
 };
 
-/* Reads a shelf, and gives the record of a number on it. */
-void read_shelf(const char *file);
+/* Reads the shelves in a folder, and gives the record of a number on the public one, and that of the trial one: rate 1/3, Type 2. */
+void read_shelves(const char *folder);
 struct record record_of(size_t number);
+struct record trial(void);
+
+/* A record without extension as one of Type 2. */
+struct record as_type_2(struct record record);
 
 /* The small record of document 01's examples: one group, three rows, one size of 2. */
 struct record toy(void);
 
-/* The widest record there can be: 20 groups, 12 rows, three sizes, every systematic entry a shift. */
+/* The widest record of Type 1 there can be: 20 groups, 12 rows, three sizes, every systematic entry a shift. */
 struct record widest(void);
+
+/* A record of any shape of either type, whose lengths go with its header, so that what is refused is refused for a number or an entry. It
+   lasts until the next. */
+struct record any_record(void);
 
 /* A shelf of so many entries that all hold one record: of tenants 1 and on for profile 7, or public for profiles 1 and on. */
 u8 *filled(int is_private, size_t entries, struct record record, size_t *length);

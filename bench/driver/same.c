@@ -44,12 +44,23 @@ static u8 *copied(in octets, size_t length) {
     return copy;
 }
 
+/* Another type, or, less often, another x. */
+static void spoil_type(u8 *record) {
+    if (drawn() % 4)
+        record[7] = drawn() % 4;
+    else
+        record[5] = drawn() % 42;
+}
+
 /* One octet of the head, or any, becomes anything or one that means something. */
 static void spoil_record(u8 *record, size_t length) {
     if (!record || drawn() % 3)
         return;
-    size_t place = drawn() % (drawn() % 2 ? 18 : length);
-    record[place] = drawn() % 2 ? drawn() : drawn() % 2 ? 255 : 0;
+    size_t place = drawn() % (drawn() % 2 ? 22 : length);
+    if (drawn() % 4 == 0)
+        spoil_type(record);
+    else
+        record[place] = drawn() % 2 ? drawn() : drawn() % 2 ? 255 : 0;
 }
 
 static void spoil_input(u8 *input, size_t length) {
@@ -92,7 +103,13 @@ static void spoil_number(struct job *job) {
         job->z = 8 * (drawn() % 5);
 }
 
-enum { NUMBERS = 100 };
+/* The version, and of a matching the type. */
+static void spoil_version(struct job *job) {
+    if (drawn() % 6 == 0)
+        job->rv = drawn() % 5;
+    if (job->kind == MATCH && drawn() % 2)
+        job->z = drawn() % 4;
+}
 
 static int answers_number(enum kind kind) { return kind != CRC && kind != CRC_OF_BITS && kind != PLAN && kind != LOOKUP; }
 
@@ -107,6 +124,7 @@ static int same_broken(const struct job *whole, long seen[NUMBERS]) {
     spoil_shelf(public);
     spoil_tenant(&job);
     spoil_number(&job);
+    spoil_version(&job);
     job.record = record, job.input = input, job.private = private, job.public = public;
     int is_same = same(&job);
     uint64_t answer = run(&sides[PRODUCT], &job);
@@ -116,7 +134,7 @@ static int same_broken(const struct job *whole, long seen[NUMBERS]) {
     return is_same;
 }
 
-static void print_seen(const long seen[NUMBERS]) {
+void print_seen(const long seen[NUMBERS]) {
     for (int number = 0; number < NUMBERS; number++)
         if (seen[number])
             printf(" %d:%ld", number, seen[number]);

@@ -1,12 +1,14 @@
 //! Rate matching by runs: 32 places with no mark among them are copied as a whole.
 
 use crate::plain::matching::{accepted, repeat, FILLER};
+use crate::record::start;
 
-pub fn by_run(coded: &[u8], e: usize, out: &mut [u8]) -> Result<(), u32> {
-    accepted(coded, e, out.len())?;
+pub fn by_run(coded: &[u8], kind: usize, rv: usize, e: usize, out: &mut [u8]) -> Result<(), u32> {
+    accepted(coded, kind, rv, e, out.len())?;
     let out = &mut out[..e];
     let mut written = 0;
-    for run in coded.chunks(32) {
+    let (last, first) = coded.split_at(start(kind, rv, coded.len()));
+    for run in first.chunks(32).chain(last.chunks(32)) {
         written += put(run, &mut out[written..]);
     }
     repeat(out, written);

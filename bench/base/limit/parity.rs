@@ -2,14 +2,19 @@
 
 use super::bits::{bits_at, pack, put, top};
 use crate::plain::judge::judge;
-use crate::plain::parity::{block_accepted, word_accepted, Matrix};
+use crate::plain::parity::{block_accepted, word_accepted, Matrix, ROWS, WORD};
 use crate::record::Profile;
 
-type Groups = [u128; 12];
+/// The octets of the longest word.
+pub const PACKED: usize = WORD.div_ceil(8);
+
+type Groups = [u128; ROWS];
 
 impl Matrix<'_> {
-    fn add(&self, j: usize, group: u128, sums: &mut [u128]) {
-        for (sum, row) in sums.iter_mut().zip(self.table.chunks_exact(self.kb + self.m)) {
+    /// Adds column j to the sums of the rows from `top` on.
+    fn add(&self, j: usize, group: u128, top: usize, sums: &mut [u128]) {
+        let rows = self.table[top * self.columns..].chunks_exact(self.columns);
+        for (sum, row) in sums[top..].iter_mut().zip(rows) {
             let shift = row[j] as usize;
             if shift != 255 {
                 *sum ^= (group << shift) | (group >> (self.z - shift));
@@ -19,29 +24,43 @@ impl Matrix<'_> {
 
     /// The parity groups of the systematic groups that `group` gives.
     pub fn parity(&self, group: impl Fn(usize) -> u128) -> Groups {
-        let mut room = Groups::default();
-        let sums = &mut room[..self.m];
+        let mut room = [0; ROWS];
+        let sums = &mut room[..self.rows];
         for j in 0..self.kb {
-            self.add(j, group(j), sums);
+            self.add(j, group(j), 0, sums);
         }
-        let first = sums.iter().fold(0, |all, &sum| all ^ sum) & top(self.z);
-        self.add(self.kb, first, sums);
-        let mut parity = Groups::default();
+        let first = sums[..self.m].iter().fold(0, |all, &sum| all ^ sum) & top(self.z);
+        self.add(self.kb, first, 0, sums);
+        let mut parity = [0; ROWS];
         parity[0] = first;
         let mut stair = 0;
         for k in 0..self.m - 1 {
             stair ^= sums[k];
             parity[k + 1] = stair & top(self.z);
         }
+        if self.rows > self.m {
+            self.extend_groups(sums, &mut parity);
+        }
         parity
+    }
+
+    /// The groups of the rows behind the staircase: each is its row's sum over all columns before.
+    fn extend_groups(&self, sums: &mut [u128], parity: &mut Groups) {
+        for k in 1..self.m {
+            self.add(self.kb + k, parity[k], self.m, sums);
+        }
+        for k in self.m..self.rows {
+            parity[k] = sums[k] & top(self.z);
+            self.add(self.kb + k, parity[k], k + 1, sums);
+        }
     }
 
     /// Whether a word of the groups that `group` gives checks.
     pub fn all_even(&self, group: impl Fn(usize) -> u128) -> bool {
-        let mut room = Groups::default();
-        let sums = &mut room[..self.m];
-        for j in 0..self.kb + self.m {
-            self.add(j, group(j), sums);
+        let mut room = [0; ROWS];
+        let sums = &mut room[..self.rows];
+        for j in 0..self.columns {
+            self.add(j, group(j), 0, sums);
         }
         sums.iter().fold(0, |any, &sum| any | sum) & top(self.z) == 0
     }
@@ -57,8 +76,8 @@ pub fn code(record: &[u8], z: usize, places: &[u8], out: &mut [u8]) -> Result<()
     let parity = matrix.parity(|j| bits_at(&packed, j * z, z));
     let (systematic, rest) = out[..profile.coded(z)].split_at_mut(places.len());
     systematic.copy_from_slice(places);
-    let mut tail = [0; 12 * 81 + 8];
-    for (i, &group) in parity[..profile.m].iter().enumerate() {
+    let mut tail = [0; ROWS * 81 + 8];
+    for (i, &group) in parity[..profile.rows].iter().enumerate() {
         put(&mut tail[i * z..], group, z);
     }
     rest.copy_from_slice(&tail[..rest.len()]);
@@ -79,7 +98,7 @@ pub fn check(record: &[u8], z: usize, word: &[u8]) -> Result<bool, u32> {
     let profile = Profile::of(record);
     let matrix = Matrix::of(&profile, profile.index_of(z)?, z);
     word_accepted(&profile, z, word)?;
-    let mut packed = [0; 324 + 16];
+    let mut packed = [0; PACKED + 16];
     pack(word, &mut packed);
     Ok(matrix.all_even(|j| bits_at(&packed, j * z, z)))
 }

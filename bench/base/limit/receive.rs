@@ -2,15 +2,17 @@
 
 use super::bits::{bits_at, own_group, pack};
 use super::checksum::by_eight_octets;
-use crate::plain::parity::Matrix;
+use super::parity::PACKED;
+use super::send::kept;
+use crate::plain::parity::{Matrix, WORD};
 use crate::plain::receive::planned;
-use crate::record::{Plan, Shares, Terms};
+use crate::record::{Plan, Profile, Terms};
 
 pub fn receive(record: &[u8], a: usize, terms: Terms, bits: &[u8], out: &mut [u8]) -> Result<(), u32> {
     let (profile, plan, octets) = planned(record, a, terms, bits, out.len())?;
     let mut room = [0; 8 * 2048 + 24];
     let own = &mut room[..plan.bits];
-    take_all(Matrix::of(&profile, plan.index, plan.z), &plan, plan.shares(terms), bits, own)?;
+    take_all(&profile, &plan, terms, bits, own)?;
     let mut room = [0; 2048 + 3];
     let block = &mut room[..octets + 3];
     pack(own, block);
@@ -23,26 +25,46 @@ pub fn receive(record: &[u8], a: usize, terms: Terms, bits: &[u8], out: &mut [u8
 }
 
 /// The own bits of all blocks, or 14.
-fn take_all(matrix: Matrix, plan: &Plan, shares: Shares, bits: &[u8], own: &mut [u8]) -> Result<(), u32> {
-    let mut packed = [0; 324 + 32];
+fn take_all(profile: &Profile, plan: &Plan, terms: Terms, bits: &[u8], own: &mut [u8]) -> Result<(), u32> {
+    let matrix = Matrix::of(profile, plan.index, plan.z);
+    let (shares, from) = (plan.shares(terms), profile.start(plan.z, terms.rv));
+    let mut packed = [0; PACKED + 32];
     let mut start = 0;
     let mut rest = bits;
     for r in 0..plan.blocks {
         let count = plan.own(r);
         let (sent, after) = rest.split_at(shares.of(r));
         rest = after;
-        let (once, again) = sent.split_at(count + matrix.m * matrix.z);
+        let (once, again) = sent.split_at(count + matrix.rows * matrix.z);
         if again != &sent[..again.len()] {
             return Err(14);
         }
-        pack(once, &mut packed);
+        take(once, kept(count, plan.places, from), &mut packed, &mut own[start..start + count]);
         if !matrix.all_even(|j| group(matrix, &packed, count, j)) {
             return Err(14);
         }
-        own[start..start + count].copy_from_slice(&sent[..count]);
         start += count;
     }
     Ok(())
+}
+
+/// Packs a block, and copies its own bits. The first places of the block come last, so many of them.
+fn take(once: &[u8], turned: usize, packed: &mut [u8], own: &mut [u8]) {
+    if turned > 0 {
+        return take_turned(once, turned, packed, own);
+    }
+    pack(once, packed);
+    own.copy_from_slice(&once[..own.len()]);
+}
+
+#[inline(never)]
+fn take_turned(once: &[u8], turned: usize, packed: &mut [u8], own: &mut [u8]) {
+    let mut room = [0; WORD];
+    let line = &mut room[..once.len()];
+    let (first, last) = once.split_at(once.len() - turned);
+    line[..turned].copy_from_slice(last);
+    line[turned..].copy_from_slice(first);
+    take(line, 0, packed, own);
 }
 
 /// Group j of a block whose filler was left out.

@@ -11,20 +11,33 @@ pub fn send(record: &[u8], block: &[u8], terms: Terms, out: &mut [u8]) -> Result
     let mut carried = [0; 2051 + 32];
     carry(block, &mut carried);
     let matrix = Matrix::of(&profile, plan.index, plan.z);
-    let shares = plan.shares(terms);
+    let (shares, from) = (plan.shares(terms), profile.start(plan.z, terms.rv));
     let mut sent = [0; WORD + 16];
     let mut start = 0;
     let mut at = 0;
     for r in 0..plan.blocks {
         let (own, share) = (plan.own(r), shares.of(r));
         lay(matrix, &carried, start, own, &mut sent);
-        for run in out[at..at + share].chunks_mut(own + matrix.m * matrix.z) {
-            run.copy_from_slice(&sent[..run.len()]);
-        }
+        let (last, first) = sent[..own + matrix.rows * plan.z].split_at(kept(own, plan.places, from));
+        put_round(first, last, &mut out[at..at + share]);
         start += own;
         at += share;
     }
     Ok(())
+}
+
+/// The unmarked places before a place.
+pub fn kept(own: usize, places: usize, place: usize) -> usize {
+    own.min(place) + place.saturating_sub(places)
+}
+
+/// Fills the output with both parts in turn.
+fn put_round(first: &[u8], last: &[u8], out: &mut [u8]) {
+    for round in out.chunks_mut(first.len() + last.len()) {
+        let (front, back) = round.split_at_mut(first.len().min(round.len()));
+        front.copy_from_slice(&first[..front.len()]);
+        back.copy_from_slice(&last[..back.len()]);
+    }
 }
 
 /// The octets of the block and of its checksum, with room behind them to read words from.
@@ -39,7 +52,7 @@ fn lay(matrix: Matrix, carried: &[u8], start: usize, own: usize, sent: &mut [u8]
     let z = matrix.z;
     let parity = matrix.parity(|j| own_group(carried, start, own, j * z, z));
     spread_from(carried, start, &mut sent[..own.next_multiple_of(8)]);
-    for (i, &group) in parity[..matrix.m].iter().enumerate() {
+    for (i, &group) in parity[..matrix.rows].iter().enumerate() {
         put(&mut sent[own + i * z..], group, z);
     }
 }

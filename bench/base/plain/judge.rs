@@ -1,24 +1,29 @@
-//! Whether a record is well formed (else 5), and whether each of its tables is a staircase (else 6).
+//! Whether a record is well formed (else 5), and whether each of its tables is a staircase with its extension (else 6).
 
-use crate::record::number;
+use crate::record::{number, HEAD};
 
 const NO_SHIFT: u8 = 255;
 
 pub fn judge(record: &[u8]) -> Result<(), u32> {
-    if record.len() < 6 {
+    if record.len() < HEAD {
         return Err(5);
     }
-    let (kb, m, sizes) = (number(record, 0), number(record, 2), number(record, 4));
+    let [kb, m, x, kind, sizes] = [0, 2, 4, 6, 8].map(|at| number(record, at));
     let known = (1..=20).contains(&kb) && (3..=12).contains(&m) && (1..=3).contains(&sizes);
-    let (head, length) = (6 + 4 * sizes, m * (kb + m));
-    if !known || record.len() != head + sizes * length {
+    let typed = x == 0 && kind == 1 || m + x <= 40 && kind == 2;
+    let (head, columns) = (HEAD + 4 * sizes, kb + m + x);
+    let length = (m + x) * columns;
+    if !known || !typed || record.len() != head + sizes * length {
         return Err(5);
     }
-    let (ranges, tables) = record[6..].split_at(head - 6);
+    let (ranges, tables) = record[HEAD..].split_at(head - HEAD);
     if !ranges_right(ranges, head, length) || !shifts_right(ranges, tables, length) {
         return Err(5);
     }
-    let stairs = tables.chunks_exact(length).all(|table| staircase(table, kb, m));
+    let stairs = tables.chunks_exact(length).all(|table| {
+        let (first, later) = table.split_at(m * columns);
+        staircase(first, kb, m, columns) && extension(later, kb + m, columns)
+    });
     if stairs {
         Ok(())
     } else {
@@ -45,16 +50,27 @@ fn shifts_right(ranges: &[u8], tables: &[u8], length: usize) -> bool {
     })
 }
 
-fn staircase(table: &[u8], kb: usize, m: usize) -> bool {
-    let outer = table[kb];
+/// The first m rows.
+fn staircase(rows: &[u8], kb: usize, m: usize, columns: usize) -> bool {
+    let outer = rows[kb];
     let mut middles = 0;
-    for (i, row) in table.chunks_exact(kb + m).map(|row| &row[kb..]).enumerate() {
-        match middles_at(row[0], outer, i == 0 || i == m - 1) {
-            Some(more) if stairs_right(row, i) => middles += more,
+    for (i, row) in rows.chunks_exact(columns).map(|row| &row[kb..]).enumerate() {
+        let (stairs, later) = row.split_at(m);
+        match middles_at(stairs[0], outer, i == 0 || i == m - 1) {
+            Some(more) if stairs_right(stairs, i) && all_empty(later) => middles += more,
             _ => return false,
         }
     }
     outer != NO_SHIFT && middles == 1
+}
+
+/// The rows behind them: row i ends with a 0 in its own column, `from` + i.
+fn extension(rows: &[u8], from: usize, columns: usize) -> bool {
+    rows.chunks_exact(columns).enumerate().all(|(i, row)| row[from + i] == 0 && all_empty(&row[from + i + 1..]))
+}
+
+fn all_empty(entries: &[u8]) -> bool {
+    entries.iter().fold(true, |empty, &entry| empty & (entry == NO_SHIFT))
 }
 
 /// Whether the first column's shift is the middle one, or nothing where it may not stand there.

@@ -3,8 +3,8 @@
 use super::checksum::by_octets;
 use super::judge::judge;
 use super::octets::{pack, some_over};
-use super::parity::{Matrix, WORD};
-use crate::record::{accepted, Plan, Profile, Shares, Terms};
+use super::parity::{Matrix, SUMS, WORD};
+use crate::record::{accepted, Plan, Profile, Terms};
 
 const BITS: usize = 8 * 2048 + 24;
 
@@ -12,13 +12,13 @@ pub fn receive(record: &[u8], a: usize, terms: Terms, bits: &[u8], out: &mut [u8
     let (profile, plan, octets) = planned(record, a, terms, bits, out.len())?;
     let mut room = [0; BITS];
     let own = &mut room[..plan.bits];
-    take_all(&profile, &plan, plan.shares(terms), bits, own)?;
+    take_all(&profile, &plan, terms, bits, own)?;
     let mut block = [0; 2048 + 3];
     pack(own, &mut block[..octets + 3]);
     attached(&block[..octets + 3], out)
 }
 
-/// The plan and the octets, or the first of 5 to 13.
+/// The plan and the octets, or the first of 5 to 13 and 16.
 #[inline(always)]
 pub fn planned<'a>(
     record: &'a [u8],
@@ -39,7 +39,7 @@ pub fn planned<'a>(
     }
     // Shares never rise, so the last block that carries the most bits is the first to be short, or the last of all is.
     let shares = plan.shares(terms);
-    let short = |r: usize| shares.of(r) < plan.own(r) + profile.m * plan.z;
+    let short = |r: usize| shares.of(r) < plan.own(r) + profile.rows * plan.z;
     if short((plan.bits - 1) % plan.blocks) || short(plan.blocks - 1) {
         return Err(13);
     }
@@ -47,9 +47,10 @@ pub fn planned<'a>(
 }
 
 /// The own bits of all blocks, or 14.
-fn take_all(profile: &Profile, plan: &Plan, shares: Shares, bits: &[u8], own: &mut [u8]) -> Result<(), u32> {
+fn take_all(profile: &Profile, plan: &Plan, terms: Terms, bits: &[u8], own: &mut [u8]) -> Result<(), u32> {
     let matrix = Matrix::of(profile, plan.index, plan.z);
-    let mut room = [0; WORD];
+    let (shares, from) = (plan.shares(terms), profile.start(plan.z, terms.rv));
+    let (mut room, mut sums) = ([0; WORD], [0; SUMS]);
     let word = &mut room[..profile.coded(plan.z)];
     let mut start = 0;
     let mut rest = bits;
@@ -60,11 +61,11 @@ fn take_all(profile: &Profile, plan: &Plan, shares: Shares, bits: &[u8], own: &m
         if !repeats(sent, count + word.len() - plan.places) {
             return Err(14);
         }
-        lay(sent, count, plan.places, word);
-        if !matrix.checks(word) {
+        lay(sent, count, plan.places, from, word);
+        if !matrix.checks(word, &mut sums) {
             return Err(14);
         }
-        own[start..start + count].copy_from_slice(&sent[..count]);
+        own[start..start + count].copy_from_slice(&word[..count]);
         start += count;
     }
     Ok(())
@@ -74,12 +75,16 @@ fn repeats(sent: &[u8], period: usize) -> bool {
     sent[period..] == sent[..sent.len() - period]
 }
 
-/// The word that was sent, with its filler again.
-fn lay(sent: &[u8], own: usize, places: usize, word: &mut [u8]) {
-    let parity = word.len() - places;
-    word[..own].copy_from_slice(&sent[..own]);
+/// The word that was sent from this place on, with its filler again.
+fn lay(sent: &[u8], own: usize, places: usize, from: usize, word: &mut [u8]) {
+    let (low, high) = (own.min(from), places.max(from));
+    let mut rest = sent;
+    for run in [low..own, high..word.len(), 0..low, places..high] {
+        let (first, after) = rest.split_at(run.len());
+        word[run].copy_from_slice(first);
+        rest = after;
+    }
     word[own..places].fill(2);
-    word[places..].copy_from_slice(&sent[own..own + parity]);
 }
 
 /// Writes the block where its checksum is the attached one.

@@ -2,8 +2,9 @@
 
 use super::checksum::by_octets;
 use super::judge::judge;
+use super::matching::repeat;
 use super::octets::unpack;
-use super::parity::{Matrix, WORD};
+use super::parity::{Matrix, SUMS, WORD};
 use crate::record::{accepted, Plan, Profile, Terms};
 
 const BITS: usize = 8 * 2048 + 24;
@@ -13,23 +14,23 @@ pub fn send(record: &[u8], block: &[u8], terms: Terms, out: &mut [u8]) -> Result
     let mut bits = [0; BITS];
     carried(block, &mut bits[..plan.bits]);
     let matrix = Matrix::of(&profile, plan.index, plan.z);
-    let mut room = [0; WORD];
+    let (mut room, mut sums) = ([0; WORD], [0; SUMS]);
     let word = &mut room[..profile.coded(plan.z)];
-    let shares = plan.shares(terms);
+    let (shares, from) = (plan.shares(terms), profile.start(plan.z, terms.rv));
     let mut start = 0;
     let mut at = 0;
     for r in 0..plan.blocks {
         let (own, share) = (plan.own(r), shares.of(r));
         lay(&bits[start..start + own], plan.places, word);
-        matrix.code(word);
-        matched(word, own, plan.places, &mut out[at..at + share]);
+        matrix.code(word, &mut sums);
+        matched(word, own, plan.places, from, &mut out[at..at + share]);
         start += own;
         at += share;
     }
     Ok(())
 }
 
-/// The plan, or the first of 5 to 11.
+/// The plan, or the first of 5 to 11 and 16.
 pub fn planned<'a>(record: &'a [u8], block: &[u8], terms: Terms, room: usize) -> Result<(Profile<'a>, Plan), u32> {
     judge(record)?;
     let profile = Profile::of(record);
@@ -53,18 +54,14 @@ fn lay(own: &[u8], places: usize, word: &mut [u8]) {
     word[own.len()..places].fill(2);
 }
 
-/// The filler lies in one stretch, so two runs are copied and then repeated.
-fn matched(word: &[u8], own: usize, places: usize, out: &mut [u8]) {
-    let parity = &word[places..];
-    let first = own.min(out.len());
-    out[..first].copy_from_slice(&word[..first]);
-    let second = parity.len().min(out.len() - first);
-    out[first..first + second].copy_from_slice(&parity[..second]);
-    let (once, rest) = out.split_at_mut(first + second);
-    if rest.is_empty() {
-        return;
+/// The filler lies in one stretch, so two runs behind the start and two before it are copied and then repeated.
+fn matched(word: &[u8], own: usize, places: usize, from: usize, out: &mut [u8]) {
+    let (low, high) = (own.min(from), places.max(from));
+    let mut written = 0;
+    for run in [&word[low..own], &word[high..], &word[..low], &word[places..high]] {
+        let more = run.len().min(out.len() - written);
+        out[written..written + more].copy_from_slice(&run[..more]);
+        written += more;
     }
-    for run in rest.chunks_mut(once.len()) {
-        run.copy_from_slice(&once[..run.len()]);
-    }
+    repeat(out, written);
 }

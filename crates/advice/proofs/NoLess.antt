@@ -34,14 +34,15 @@ use Rattle.advice.proofs.Numbers.{least-first, least-last, right}
 
 -- ---- what the number says
 
-not-thirteen : (a b c d e : Bool) → answered ((5, a) ∷ (6, b) ∷ (7, c) ∷ (8, d) ∷ (9, e) ∷ []) ≡ 13 → ⊥
+not-thirteen : (a b c v d e : Bool) → answered ((5, a) ∷ (6, b) ∷ (7, c) ∷ (16, v) ∷ (8, d) ∷ (9, e) ∷ []) ≡ 13 → ⊥
 unfolding answered
-not-thirteen true b c d e q = omega arith
-not-thirteen false true c d e q = omega arith
-not-thirteen false false true d e q = omega arith
-not-thirteen false false false true e q = omega arith
-not-thirteen false false false false true q = omega arith
-not-thirteen false false false false false q = omega arith
+not-thirteen true b c v d e q = omega arith
+not-thirteen false true c v d e q = omega arith
+not-thirteen false false true v d e q = omega arith
+not-thirteen false false false true d e q = omega arith
+not-thirteen false false false false true e q = omega arith
+not-thirteen false false false false false true q = omega arith
+not-thirteen false false false false false false q = omega arith
 
 thirteen-is : (b : Bool) → answered ((13, not b) ∷ []) ≡ 13 → b ≡ false
 unfolding answered
@@ -75,7 +76,7 @@ module _ (R : List ℕ) (octets : ℕ) (terms : Terms) where
   least-thirteen e =
       equal-or (cutNumber R octets terms 0) 0
       (λ z. (z, thirteen-is (someRoom R octets terms) (sym (least-last R octets terms z) ∙ e)))
-      (λ n. absurd (not-thirteen _ _ _ _ _ (sym (least-first R octets terms n) ∙ e)))
+      (λ n. absurd (not-thirteen _ _ _ _ _ _ (sym (least-first R octets terms n) ∙ e)))
 
   -- ---- the G that 8 does not refuse are the allocations
 
@@ -188,7 +189,7 @@ module _ (R : List ℕ) (octets : ℕ) (terms : Terms) where
         let tests = plan-passed R octets (cut-passed R octets terms 0 e .0) in
         let seven : not (eqb (8 * octets % 8) 0 && within 1 2048 octets) ≡ false =
         rw (eq-eqb (8 * octets % 8) 0 whole, le-leb 1 octets (tests .1), le-leb octets 2048 (tests .2)) in
-        rw back (judged-passed R _ (tests .0) ∙ passes 7 _ seven ∙ passes 8 _ allowed ∙ passes 9 _ (le-ltb 64 (blocks R (blockBits octets)) (tests .3)))
+        rw back (judged-passed R _ (tests .0) ∙ passes 7 _ seven ∙ passes 16 _ (cut-passed R octets terms 0 e .2) ∙ passes 8 _ allowed ∙ passes 9 _ (le-ltb 64 (blocks R (blockBits octets)) (tests .3)))
 
     without-room : octets ≤ room → someOver 1 bits ≡ false → TenOrThirteen (length bits)
         → (receiveNumber R (8 * octets) terms bits room ≡ 10) ⊎ (receiveNumber R (8 * octets) terms bits room ≡ 13)

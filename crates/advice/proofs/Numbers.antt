@@ -4,18 +4,16 @@ use mathlib.Core.Bool.{Bool, not}
 use mathlib.Core.List.{List, [], _∷_}
 use Prim.Native.Nat.{ℕ, _-_, _*_, _/_, _%_, _≤_, _<_}
 use native.Mathlib.Omega.{arith}
-use lib.Dec.{ltb}
 use Rattle.bits.specs.Numbers.{answered, whenDone}
 use Rattle.bits.specs.Ranges.{within}
 use Rattle.bits.specs.Counts.{placeBits}
 use Rattle.bits.specs.declared.count.CodedBits.{CodedBits}
 use Rattle.bits.specs.declared.count.Terms.{Terms}
 use Rattle.bits.proofs.Answers.{applies, passes, none-left, first-part, Refusals, last-part, when-done, when-refused}
-use Rattle.profile.specs.Record.{wellFormed}
-use Rattle.profile.specs.Staircase.{staircases}
 use Rattle.cutting.specs.Plan.{blockBits, blocks}
 use Rattle.cutting.proofs.Plans.{Cut, plan-cut}
-use Rattle.coding.specs.Allocation.{misallocated, spare, share}
+use Rattle.coding.specs.Allocation.{spare, share}
+use Rattle.coding.specs.Promises.{cutConditions}
 use Rattle.coding.specs.steps.Shares.{Allocated}
 use Rattle.coding.specs.steps.Numbers.{cutNumber}
 use Rattle.coding.proofs.Shares.{allocated}
@@ -28,9 +26,7 @@ use Rattle.advice.proofs.Room.{some-room, no-room, least-is, spare-is}
 
 module _ (R : List ℕ) (octets : ℕ) (terms : Terms) where
   abbrev tests : List (ℕ × Bool)
-  tests =
-      (5, not (wellFormed R)) ∷ (6, not (staircases R)) ∷ (7, not (within 1 2048 octets)) ∷ (8, misallocated terms 0)
-      ∷ (9, ltb 64 (blocks R (blockBits octets))) ∷ []
+  tests = cutConditions R (not (within 1 2048 octets)) octets terms 0
 
   pub least-first : (cutNumber R octets terms 0 ≡ 0 → ⊥) → leastNumber R octets terms ≡ cutNumber R octets terms 0
   unfolding cutNumber leastNumber

@@ -12,7 +12,7 @@ use Rattle.coding.specs.Promises.{cutConditions}
 use Rattle.advice.specs.Least.{someRoom, leastBits}
 use Rattle.advice.specs.declared.Least.{Least}
 
--- 5 to 9 as sending answers them for G 0, so that 8 is about N_L and Q_m alone; 13 is here: where no G up to 65,536 has room
+-- 5 to 9 and 16 as sending answers them for G 0, so that 8 is about N_L and Q_m alone; 13 is here: where no G up to 65,536 has room
 abbrev pub leastConditions : List ℕ → ℕ → Terms → List (ℕ × Bool)
 leastConditions R octets terms =
     cutConditions R (not (within 1 2048 octets)) octets terms 0 ++ (13, not (someRoom R octets terms)) ∷ []

@@ -30,18 +30,6 @@ laid-more s a b from k at l h =
       above = λ p m. getD-set-other b (at + k) p x 0 (λ e. omega arith) ∙ l .above p (omega arith);
     }
 
--- what was laid from the front of w was laid from where the same stands in s
-pub laid-from : (s w a b : List ℕ) (from n at : ℕ) → take n w ≡ take n (drop from s) → Laid w 0 n a at b → Laid s from n a at b
-laid-from s w a b from n at e l =
-    record {
-      len = l .len;
-      inside = λ k h.
-          l .inside k h ∙ ap (λ (j : ℕ). getD w j 0) (zero-add k) ∙ sym (getD-take n w k 0 h) ∙ ap (λ (x : List ℕ). getD x k 0) e ∙ getD-take n (drop from s) k 0 h
-          ∙ getD-drop from s k 0;
-      below = l .below;
-      above = l .above;
-    }
-
 -- what was laid behind a front
 pub laid-front : (s a b : List ℕ) (from n at : ℕ) → from + n ≤ length s → at + n ≤ length a → Laid s from n a at b → take (at + n) b ≡ take at a ++ take n (drop from s)
 laid-front s a b from n at h l w =

@@ -2,45 +2,50 @@
 -- it is what the receiver gathers.
 use mathlib.Core.Path.{_≡_, refl, sym, ap, ap₂, _∙_, subst}
 use mathlib.Core.List.{List}
-use Prim.Native.Nat.{ℕ, suc, _+_, _*_, _≤_, _<_}
-use native.Mathlib.Nat.{add-mul}
+use Prim.Native.Nat.{ℕ, suc, _+_, _-_, _*_, _≤_, _<_}
+use native.Mathlib.Nat.{add-mul, le-mul-of-pos-right, mul-comm}
 use native.Mathlib.Omega.{arith}
 use borrow.Author.Tests.{ltb-false}
 use lib.Dec.{ltb}
 use lib.ListN.{length, getD, take, drop}
-use lib.Seq.{take-all, take-take}
+use lib.Seq.{take-all, length-take-le}
 use Rattle.bits.specs.Bits.{AreBits}
 use Rattle.bits.specs.Ranges.{sumBelow}
 use Rattle.bits.specs.declared.count.Terms.{Terms}
 use Rattle.bits.proofs.Lists.{bits-take, bits-drop, length-part}
 use Rattle.bits.proofs.Ranges.{none-any}
 use Rattle.bits.proofs.Sums.{sum-same, sum-mono}
-use Rattle.bits.proofs.Listed.{length-list}
-use Rattle.profile.specs.Record.{kb, z, rows, columns, table}
+use Rattle.profile.specs.Record.{kb, kind, z, rows, columns, table}
 use Rattle.profile.proofs.Shape.{columns-is}
 use Rattle.cutting.specs.Plan.{blockBits, blocks, ownBits, sizeIndex, places, filler}
 use Rattle.cutting.specs.Cutting.{ownStart, own, systematic}
 use Rattle.cutting.proofs.Plans.{Cut, plan-cut}
-use Rattle.matching.specs.Matching.{matched}
+use Rattle.matching.specs.steps.Places.{keptBefore}
+use Rattle.matching.specs.steps.Line.{heard}
+use Rattle.matching.proofs.Start.{versioned, start-within}
+use Rattle.matching.proofs.Heard.{in-line-length, in-line-bits}
+use Rattle.block.proofs.ReceivedBlock.{heard-own}
 use Rattle.coding.specs.Blocks.{codedBlock, sendable}
 use Rattle.coding.specs.Allocation.{share}
 use Rattle.coding.specs.Joining.{blockSent, joined, radioBits}
 use Rattle.coding.specs.Receiving.{someWithoutRoom}
 use Rattle.coding.specs.steps.Shares.{Allocated}
-use Rattle.coding.specs.steps.Receiving.{shareStart, ownReceived, gathered, Receivable}
-use Rattle.coding.proofs.ReceivedBlock.{front-own}
+use Rattle.coding.specs.steps.Sending.{versionStart}
+use Rattle.coding.specs.steps.Receiving.{shareStart, stretch, ownReceived, gathered, Receivable}
 use Rattle.coding.proofs.Joining.{length-joined, joined-stretch, joined-same, joined-bits, joined-cut}
 use Rattle.coding.proofs.Shares.{shares-all}
+use Rattle.coding.proofs.Sent.{block-length, block-sent-is}
 
 -- bits in which every block has room for its coded bits that are not filler
 pub record HasRoom (R : List ℕ) (b : ℕ) (terms : Terms) (bits : List ℕ) : Type 0 where
   pub cut : Cut R b
   pub allocated : Allocated terms (length bits) (blocks R b)
   pub single : AreBits bits
+  pub starts : versionStart R b terms ≤ columns R * z R (sizeIndex R b)
   pub room : (r : ℕ) → r < blocks R b → sendable R b r ≤ share terms (length bits) (blocks R b) r .0
 
 pub has-room-of : (R : List ℕ) (octets : ℕ) (terms : Terms) (bits : List ℕ) → Receivable R octets terms bits → HasRoom R (blockBits octets) terms bits
-unfolding someWithoutRoom
+unfolding someWithoutRoom versionStart
 has-room-of R octets terms bits h =
     let b = blockBits octets in
     let c = blocks R b in
@@ -48,6 +53,7 @@ has-room-of R octets terms bits h =
       cut = plan-cut R octets (h .taken);
       allocated = h .allocated;
       single = h .single;
+      starts = start-within (kind R) (terms .rv) _ (versioned (kind R) (terms .rv) (h .version));
       room = λ r l. ltb-false _ _ (none-any c (λ i. ltb (share terms (length bits) c i .0) (sendable R b i)) (h .room) r l);
     }
 
@@ -99,12 +105,31 @@ module _ (R : List ℕ) (b : ℕ) (terms : Terms) (bits : List ℕ) (h : HasRoom
   abbrev t : List ℕ
   t = gathered R b terms bits
 
-  received-is : (r : ℕ) → ownReceived R b terms bits r ≡ take (mine r) (drop (at r) bits)
+  abbrev total : ℕ
+  total = columns R * z R (sizeIndex R b)
+
+  -- a block's bits in line, as if they had been sent from the first place
+  abbrev lined : ℕ → List ℕ → List ℕ
+  lined n s = heard n (places R b) (versionStart R b terms) total s
+
+  stretch-length : (r : ℕ) → r < c → length (stretch R b terms bits r) ≡ given r
+  unfolding stretch
+  stretch-length r l = length-part (given r) (at r) bits (stretch-within r l)
+
+  received-is : (r : ℕ) → ownReceived R b terms bits r ≡ take (mine r) (lined (mine r) (stretch R b terms bits r))
   unfolding ownReceived
   received-is r = refl
 
+  -- behind the places there are parity bits
+  behind : total - places R b ≡ rows R * z R (sizeIndex R b)
+  behind = omega (arith, cut .product, ap (λ (n : ℕ). n * z R (sizeIndex R b)) (columns-is R), add-mul (kb R) (rows R) (z R (sizeIndex R b)))
+
   received-length : (r : ℕ) → r < c → length (ownReceived R b terms bits r) ≡ mine r
-  received-length r l = ap length (received-is r) ∙ length-part (mine r) (at r) bits (omega (arith, has-room r l, stretch-within r l))
+  received-length r l =
+      let n : ℕ = mine r + (total - places R b) in
+      let k : ℕ = keptBefore (mine r) (places R b) (versionStart R b terms) in
+      let long = in-line-length n k (stretch R b terms bits r) (omega (arith, has-room r l, stretch-length r l, behind)) in
+      ap length (received-is r) ∙ length-take-le (mine r) (lined (mine r) (stretch R b terms bits r)) (omega (arith, long))
 
   pub front-length : (r : ℕ) → r ≤ c → length (joined r (ownReceived R b terms bits)) ≡ ownStart R b r
   unfolding ownStart
@@ -115,10 +140,13 @@ module _ (R : List ℕ) (b : ℕ) (terms : Terms) (bits : List ℕ) (h : HasRoom
   gathered-length = front-length c (omega arith) ∙ cut .own-sum
 
   pub gathered-bits : AreBits (gathered R b terms bits)
-  unfolding gathered ownReceived
-  gathered-bits = joined-bits (ownReceived R b terms bits) c (λ r l. bits-take (mine r) (drop (at r) bits) (bits-drop (at r) bits (h .single)))
+  unfolding gathered ownReceived stretch
+  gathered-bits =
+      joined-bits (ownReceived R b terms bits) c
+      (λ r l. bits-take (mine r) (lined (mine r) (stretch R b terms bits r))
+      (in-line-bits _ _ (stretch R b terms bits r) (bits-take (given r) (drop (at r) bits) (bits-drop (at r) bits (h .single)))))
 
-  -- block r's own bits are those that stand at the beginning of its stretch
+  -- block r's own bits are those that stand at the beginning of its stretch, once it is in line
   pub own-gathered : (r : ℕ) → r < c → own R b t r ≡ ownReceived R b terms bits r
   unfolding own gathered
   own-gathered r l =
@@ -134,13 +162,13 @@ module _ (R : List ℕ) (b : ℕ) (terms : Terms) (bits : List ℕ) (h : HasRoom
     f : ℕ → List ℕ
     f = blockSent R b u terms g
 
-    block-length : (r : ℕ) → length (f r) ≡ given r
-    unfolding f blockSent matched
-    block-length r = length-list _ _
+    f-length : (r : ℕ) → length (f r) ≡ given r
+    unfolding f
+    f-length r = block-length R b u terms g r
 
     sent-length : (r : ℕ) → length (joined r f) ≡ at r
     unfolding f shareStart
-    sent-length r = length-joined f r ∙ sum-same r _ _ (λ i o. block-length i)
+    sent-length r = length-joined f r ∙ sum-same r _ _ (λ i o. f-length i)
 
     sent-is : radioBits R b u terms g ≡ joined c f
     unfolding f radioBits
@@ -154,7 +182,7 @@ module _ (R : List ℕ) (b : ℕ) (terms : Terms) (bits : List ℕ) (h : HasRoom
       pub stretch-sent : (r : ℕ) → r < c → blockSent R b u terms g r ≡ take (given r) (drop (at r) bits)
       unfolding f
       stretch-sent r l =
-          sym (joined-stretch f c r l) ∙ ap₂ (λ (i j : ℕ). take i (drop j (joined c f))) (block-length r) (sent-length r)
+          sym (joined-stretch f c r l) ∙ ap₂ (λ (i j : ℕ). take i (drop j (joined c f))) (f-length r) (sent-length r)
           ∙ ap (λ (l : List ℕ). take (given r) (drop (at r) l)) (sym whole)
 
     -- the other way round
@@ -176,19 +204,23 @@ module _ (R : List ℕ) (b : ℕ) (terms : Terms) (bits : List ℕ) (h : HasRoom
           let within : suc r ≤ c = omega arith in
           ap length (own-part r) ∙ length-part (mine r) (ownStart R b r) u (omega (arith, size, cut .own-sum, sum-mono mine (suc r) c within))
 
-      own-begins : (r : ℕ) → r < c → take (length (own R b u r)) (blockSent R b u terms g r) ≡ own R b u r
-      unfolding blockSent codedBlock systematic
+      own-begins : (r : ℕ) → r < c → take (length (own R b u r)) (lined (length (own R b u r)) (blockSent R b u terms g r)) ≡ own R b u r
+      unfolding codedBlock systematic
       own-begins r l =
           let product = cut .product in
-          rw product
-          (front-own (table R (sizeIndex R b)) (own R b u r) (kb R) (rows R) (columns R) (z R (sizeIndex R b)) (columns-is R)
+          let y = z R (sizeIndex R b) in
+          let low = cut .known .z-low (sizeIndex R b) (cut .size) in
+          let more : y ≤ y * rows R = le-mul-of-pos-right y (omega (arith, cut .known .rows-low)) in
+          let some : 0 < rows R * y = omega (arith, mul-comm y (rows R), more, low) in
+          let law = heard-own (table R (sizeIndex R b)) (own R b u r) (kb R) (rows R) (columns R) y (columns-is R)
           (λ k. subst (λ (s : List ℕ). getD s k 0 < 2) (sym (own-part r)) (bits-take (mine r) (drop (ownStart R b r) u) (bits-drop (ownStart R b r) u single) k))
-          (omega (arith, own-size r l, own-fits r, product)) (given r) (omega (arith, own-size r l, has-room r l)))
+          (omega (arith, own-size r l, own-fits r, product)) (versionStart R b terms) (given r) (h .starts) some (omega (arith, own-size r l, has-room r l)) in
+          ap (λ (s : List ℕ). take (length (own R b u r)) (lined (length (own R b u r)) s)) (block-sent-is R b u terms g r cut) ∙ rw product law
 
       own-sent : (r : ℕ) → r < c → own R b u r ≡ ownReceived R b terms bits r
+      unfolding stretch
       own-sent r l =
-          sym (own-begins r l) ∙ ap₂ (λ (n : ℕ) (s : List ℕ). take n s) (own-size r l) (stretch-sent e r l)
-          ∙ take-take (mine r) (given r) (drop (at r) bits) (omega (arith, has-room r l)) ∙ sym (received-is r)
+          sym (own-begins r l) ∙ ap₂ (λ (n : ℕ) (s : List ℕ). take n (lined n s)) (own-size r l) (stretch-sent e r l) ∙ sym (received-is r)
 
       pub sent-gathered : u ≡ t
       unfolding gathered ownStart

@@ -1,9 +1,7 @@
 pub mod Answers
 pub mod Joining
 pub mod Shares
-pub mod PlanFields
 pub mod Sent
-pub mod ReceivedBlock
 pub mod Gathered
 pub mod RequestNumber
 pub mod Received

@@ -7,7 +7,6 @@ use native.Mathlib.Nat.{add-mul}
 use native.Mathlib.Numerals.{add-one}
 use native.Mathlib.Omega.{arith}
 use lib.ListN.{length, take, drop}
-use lib.Seq.{take-take}
 use Rattle.bits.specs.Bits.{same, withFiller}
 use Rattle.bits.specs.Ranges.{sumBelow}
 use Rattle.bits.specs.declared.count.Terms.{Terms}
@@ -21,14 +20,16 @@ use Rattle.cutting.specs.Plan.{blockBits, blocks, ownBits}
 use Rattle.cutting.specs.Cutting.{ownStart, systematic}
 use Rattle.cutting.specs.declared.Plan.{Plan}
 use Rattle.cutting.proofs.PlanFields.{PlanFields, bits-is, plan-fields, places-product}
+use Rattle.matching.specs.steps.Line.{heard}
+use Rattle.block.specs.steps.Blocks.{blockSentAs}
 use Rattle.coding.specs.Blocks.{codedBlock}
 use Rattle.coding.specs.Allocation.{share}
 use Rattle.coding.specs.Joining.{blockSent, joined, radioBits}
-use Rattle.coding.specs.steps.Blocks.{blockSentAs}
 use Rattle.coding.specs.steps.Shares.{Allocated}
-use Rattle.coding.specs.steps.Receiving.{shareStart, ownReceived, gathered, ReceivablePlan}
+use Rattle.coding.specs.steps.Sending.{versionStart}
+use Rattle.coding.specs.steps.Receiving.{shareStart, stretch, ownReceived, gathered, ReceivablePlan}
 use Rattle.coding.proofs.Gathered.{HasRoom, has-room-of, has-room, own-gathered, stretch-sent, all-sent}
-use Rattle.coding.proofs.Sent.{start-none, start-turn, own-is, own-fits, share-fits, share-turn}
+use Rattle.coding.proofs.Sent.{start-none, start-turn, own-is, own-fits, share-fits, share-turn, block-sent-is}
 
 -- the blocks before r were tested and are what the gathered bits are sent as, and their own bits stand in front of room
 pub record Walk (R : List ℕ) (terms : Terms) (bits : List ℕ) (b : ℕ) (old : List ℕ) (r start from : ℕ) (room : List ℕ) : Type 0 where
@@ -83,28 +84,38 @@ module _ (R : List ℕ) (terms : Terms) (bits : List ℕ) (p : Plan) (h : Receiv
       omega (arith, own-is R p k r n q, d, ap (λ (n : ℕ). rows R * n) (k .z-is), room, product, parts, wide)
 
   -- block r, whose stretch begins at `from`, has e bits, and n own bits in front
-  module _ (r from e n : ℕ) (l : r < p .blocks) (a : from ≡ at r) (d : e ≡ given r) (q : n ≡ ownBits (p .bits) (p .blocks) r) where
+  module _ (r from e n start : ℕ) (l : r < p .blocks) (a : from ≡ at r) (d : e ≡ given r) (q : n ≡ ownBits (p .bits) (p .blocks) r)
+      (v : start ≡ versionStart R (p .bits) terms) where
     abbrev s : List ℕ
     s = take e (drop from bits)
 
-    own-here : take n (drop from bits) ≡ ownReceived R (p .bits) terms bits r
-    unfolding ownReceived shareStart
-    own-here = ap₂ (λ (i j : ℕ). take i (drop j bits)) (own-is R p fields r n q) a
+    -- the first of them in line, as if they had been sent from the first place
+    abbrev line : List ℕ
+    line = heard n (p .places) start (columns R * p .z) s
 
-    cut-here : withFiller (p .places) (take n s) ≡ systematic R (p .bits) t r
+    own-here : take n line ≡ ownReceived R (p .bits) terms bits r
+    unfolding ownReceived stretch shareStart
+    own-here =
+        let k = fields in
+        ap₂ (λ (i : ℕ) (x : List ℕ). take i (heard i (p .places) start (columns R * p .z) x)) (own-is R p k r n q) (ap₂ (λ (i j : ℕ). take i (drop j bits)) d a)
+        ∙ rw (k .places-is, v, k .z-is)
+
+    cut-here : withFiller (p .places) (take n line) ≡ systematic R (p .bits) t r
     unfolding systematic
     cut-here =
-        let less : n ≤ e = omega (arith, room-here r n e l q d) in
         let mine = own-gathered R (p .bits) terms bits room-everywhere r (omega (arith, fields .blocks-is)) in
-        ap₂ withFiller (fields .places-is) (take-take n e (drop from bits) less ∙ own-here ∙ sym mine)
+        ap₂ withFiller (fields .places-is) (own-here ∙ sym mine)
 
     s-length : length s ≡ e
     s-length = length-part e from bits (share-fits R p fields terms (length bits) given-here r from e l a d)
 
-    tested-is : blockSentAs (table R (p .index)) (rows R) (columns R) (p .z) (withFiller (p .places) (take n s)) s
+    tested-is : blockSentAs (table R (p .index)) (rows R) (columns R) (p .z) start (withFiller (p .places) (take n line)) s
         ≡ same (blockSent R (p .bits) t terms (length bits) r) s
-    unfolding blockSentAs blockSent codedBlock
-    tested-is = let k = fields in rw (cut-here, s-length, k .index-is, k .z-is, d)
+    unfolding blockSentAs codedBlock
+    tested-is =
+        let k = fields in
+        ap (λ (x : List ℕ). same x s)
+        (rw (cut-here, s-length, k .index-is, k .z-is, d, v) (sym (block-sent-is R (p .bits) t terms (length bits) r (k .cut))))
 
     stretch-is : radioBits R (p .bits) t terms (length bits) ≡ bits → blockSent R (p .bits) t terms (length bits) r ≡ s
     unfolding shareStart
@@ -112,31 +123,32 @@ module _ (R : List ℕ) (terms : Terms) (bits : List ℕ) (p : Plan) (h : Receiv
         stretch-sent R (p .bits) terms bits room-everywhere t whole r (omega (arith, fields .blocks-is)) ∙ ap₂ (λ (x y : ℕ). take x (drop y bits)) (sym d) (sym a)
 
     -- what the test of the block says
-    module _ (v : Bool) (tested : v ≡ blockSentAs (table R (p .index)) (rows R) (columns R) (p .z) (withFiller (p .places) (take n s)) s) where
-      block-sent : v ≡ true → blockSent R (p .bits) t terms (length bits) r ≡ s
+    module _ (b : Bool) (tested : b ≡ blockSentAs (table R (p .index)) (rows R) (columns R) (p .z) start (withFiller (p .places) (take n line)) s) where
+      block-sent : b ≡ true → blockSent R (p .bits) t terms (length bits) r ≡ s
       block-sent y = same-equal _ s (sym tested-is ∙ sym tested ∙ y)
 
-      pub block-other : v ≡ false → radioBits R (p .bits) t terms (length bits) ≡ bits → ⊥
+      pub block-other : b ≡ false → radioBits R (p .bits) t terms (length bits) ≡ bits → ⊥
       block-other y whole =
           let is : same (blockSent R (p .bits) t terms (length bits) r) s ≡ true = rw (stretch-is whole) (same-self s) in
           true≢false (sym is ∙ sym tested-is ∙ sym tested ∙ y)
 
-      pub walk-more : (old room room' : List ℕ) (start : ℕ) → v ≡ true → 16408 ≤ length old → Walk R terms bits (p .bits) old r start from room
-          → Laid bits from n room start room' → Walk R terms bits (p .bits) old (r + 1) (start + n) (from + e) room'
+      pub walk-more : (old word room room' : List ℕ) (begin : ℕ) → b ≡ true → 16408 ≤ length old → take n word ≡ take n line → n ≤ length word
+          → Walk R terms bits (p .bits) old r begin from room
+          → Laid word 0 n room begin room' → Walk R terms bits (p .bits) old (r + 1) (begin + n) (from + e) room'
       unfolding joined
-      walk-more old room room' start y big w laid =
+      walk-more old word room room' begin y big front has w laid =
           let k = fields in
-          let fits = own-fits R p k r start n l (w .starts) q in
+          let fits = own-fits R p k r begin n l (w .starts) q in
           let shares = share-fits R p k terms (length bits) given-here r from e l a d in
           let less = room-here r n e l q d in
-          let inside : start + n ≤ length room = omega (arith, fits, k .cut .bits-high, w .same) in
+          let inside : begin + n ≤ length room = omega (arith, fits, k .cut .bits-high, w .same) in
           record {
             starts = ap₂ (λ (x y : ℕ). x + y) (w .starts) (own-is R p k r n q) ∙ sym (start-turn R (p .bits) r);
             stands = share-turn R p k terms (length bits) r from e a d;
             sent = λ i u.
-                last-or i r (omega arith) (λ b. w .sent i b)
-                (λ b. ap (blockSent R (p .bits) t terms (length bits)) b ∙ block-sent y ∙ ap₂ (λ (x y : ℕ). take x (drop y bits)) (d ∙ ap given (sym b)) (a ∙ ap at (sym b)));
-            front = laid-front bits room room' from n start (omega arith) inside laid ∙ rw (add-one r) (ap₂ (λ (x y : List ℕ). x ++ y) (w .front) own-here);
+                last-or i r (omega arith) (λ o. w .sent i o)
+                (λ o. ap (blockSent R (p .bits) t terms (length bits)) o ∙ block-sent y ∙ ap₂ (λ (x y : ℕ). take x (drop y bits)) (d ∙ ap given (sym o)) (a ∙ ap at (sym o)));
+            front = laid-front word room room' 0 n begin (omega arith) inside laid ∙ rw (add-one r) (ap₂ (λ (x y : List ℕ). x ++ y) (w .front) (front ∙ own-here));
             same = laid .len ∙ w .same;
           }
 

@@ -14,11 +14,13 @@ use Rattle.bits.specs.declared.count.Terms.{Terms}
 use Rattle.bits.proofs.Answers.{applies, passes, passed, none-left, first-part, Refusals, last-part, when-done, when-refused}
 use Rattle.bits.proofs.Over.{over-none-bits}
 use Rattle.bits.proofs.Ranges.{equal-or}
+use Rattle.profile.specs.Record.{kind}
 use Rattle.profile.specs.Promises.{judged}
 use Rattle.profile.proofs.Answers.{judged-first, judged-passed}
 use Rattle.cutting.specs.Plan.{blockBits, blocks}
 use Rattle.cutting.specs.Promises.{planNumber}
 use Rattle.cutting.proofs.Plans.{plan-passed, plan-cut}
+use Rattle.matching.specs.Matching.{misversioned}
 use Rattle.coding.specs.Allocation.{misallocated}
 use Rattle.coding.specs.Receiving.{someSentAs, receivedBlock, someWithoutRoom}
 use Rattle.coding.specs.Promises.{requestConditions, notOctets, receiveNumber, Received}
@@ -64,7 +66,7 @@ module _ (R : List ℕ) (a : ℕ) (terms : Terms) (bits : List ℕ) (room : ℕ)
   reception-last e = in-parts ∙ last-part first last tt (sym request-is ∙ e)
 
   module _ (e : requestNumber R o terms g o room ≡ 0) where
-    abbrev ok : (planNumber R o ≡ 0) × (misallocated terms g ≡ false) × (o ≤ room)
+    abbrev ok : (planNumber R o ≡ 0) × (misallocated terms g ≡ false) × (o ≤ room) × (misversioned (kind R) (terms .rv) ≡ false)
     ok = request-passed R o terms g o room e
 
     pub octets-are : o ≡ a / 8
@@ -106,6 +108,7 @@ module _ (R : List ℕ) (a : ℕ) (terms : Terms) (bits : List ℕ) (room : ℕ)
       let same = octets-are e in (
         record {
           taken = rw same at (t .0);
+          version = ok e .3;
           allocated = rw same at (t .1);
           single = over-none-bits bits (p12 .0);
           room = p13 .0;

@@ -1,4 +1,4 @@
--- The numbers that are answered before a block is coded, 5 to 11: how each is found, and what a request that none refuses has passed.
+-- The numbers that are answered before a block is coded, 5 to 11 and 16: how each is found, and what a request that none refuses has passed.
 use mathlib.Core.Path.{_≡_, refl, sym, _∙_}
 use mathlib.Core.Bool.{Bool, true, false, not}
 use mathlib.Core.List.{List, [], _∷_}
@@ -11,7 +11,7 @@ use Rattle.bits.specs.Ranges.{within}
 use Rattle.bits.specs.declared.count.Terms.{Terms}
 use Rattle.bits.proofs.Answers.{applies, passes, passed, none-left, first-part, Refusals, last-part}
 use Rattle.bits.proofs.Ranges.{equal-or}
-use Rattle.profile.specs.Record.{wellFormed}
+use Rattle.profile.specs.Record.{kind, wellFormed}
 use Rattle.profile.specs.Staircase.{staircases}
 use Rattle.profile.specs.Promises.{judged}
 use Rattle.profile.proofs.Answers.{judged-first, judged-passed}
@@ -19,6 +19,7 @@ use Rattle.cutting.specs.Plan.{blockBits, blocks}
 use Rattle.cutting.specs.Promises.{planNumber}
 use Rattle.cutting.proofs.Answers.{plan-judged}
 use Rattle.cutting.proofs.Plans.{plan-passed}
+use Rattle.matching.specs.Matching.{misversioned}
 use Rattle.coding.specs.Allocation.{misallocated}
 use Rattle.coding.specs.Promises.{cutConditions, tooFewPlaces, requestConditions}
 use Rattle.coding.specs.steps.Numbers.{cutNumber, requestNumber}
@@ -36,17 +37,20 @@ unfolding answered
 not-seven true b n = absurd (n refl)
 not-seven false b n = refl
 
--- ---- 5 to 9
+-- ---- 5 to 9 and 16
 
 module _ (R : List ℕ) (octets : ℕ) (terms : Terms) (g : ℕ) where
   seven : Bool
   seven = not (within 1 2048 octets)
 
+  sixteen : Bool
+  sixteen = misversioned (kind R) (terms .rv)
+
   nine : Bool
   nine = ltb 64 (blocks R (blockBits octets))
 
-  cut-judged : judged R ≡ 0 → cutNumber R octets terms g ≡ answered ((7, seven) ∷ (8, misallocated terms g) ∷ (9, nine) ∷ [])
-  unfolding cutNumber seven nine
+  cut-judged : judged R ≡ 0 → cutNumber R octets terms g ≡ answered ((7, seven) ∷ (16, sixteen) ∷ (8, misallocated terms g) ∷ (9, nine) ∷ [])
+  unfolding cutNumber seven sixteen nine
   cut-judged e = judged-passed R _ e
 
   -- each way out, by its test
@@ -66,17 +70,23 @@ module _ (R : List ℕ) (octets : ℕ) (terms : Terms) (g : ℕ) where
       past-seven : seven ≡ false
       past-seven = not-seven seven nine (λ q. n (plan-is ∙ q))
 
-      from-eight : cutNumber R octets terms g ≡ answered ((8, misallocated terms g) ∷ (9, nine) ∷ [])
-      from-eight = cut-judged e ∙ passes 7 _ past-seven
+      pub cut-sixteen : misversioned (kind R) (terms .rv) ≡ true → 16 ≡ cutNumber R octets terms g
+      unfolding sixteen
+      cut-sixteen t = sym (cut-judged e ∙ passes 7 _ past-seven ∙ applies 16 _ t)
 
-      pub cut-eight : misallocated terms g ≡ true → 8 ≡ cutNumber R octets terms g
-      cut-eight t = sym (from-eight ∙ applies 8 _ t)
+      module _ (version : misversioned (kind R) (terms .rv) ≡ false) where
+        from-eight : cutNumber R octets terms g ≡ answered ((8, misallocated terms g) ∷ (9, nine) ∷ [])
+        unfolding sixteen
+        from-eight = cut-judged e ∙ passes 7 _ past-seven ∙ passes 16 _ version
 
-      pub cut-nine : misallocated terms g ≡ false → p ≡ cutNumber R octets terms g
-      cut-nine right = plan-is ∙ passes 7 _ past-seven ∙ sym (from-eight ∙ passes 8 _ right)
+        pub cut-eight : misallocated terms g ≡ true → 8 ≡ cutNumber R octets terms g
+        cut-eight t = sym (from-eight ∙ applies 8 _ t)
+
+        pub cut-nine : misallocated terms g ≡ false → p ≡ cutNumber R octets terms g
+        cut-nine right = plan-is ∙ passes 7 _ past-seven ∙ sym (from-eight ∙ passes 8 _ right)
 
   -- what a block that none of them refuses has passed
-  pub cut-passed : cutNumber R octets terms g ≡ 0 → (planNumber R octets ≡ 0) × (misallocated terms g ≡ false)
+  pub cut-passed : cutNumber R octets terms g ≡ 0 → (planNumber R octets ≡ 0) × (misallocated terms g ≡ false) × (misversioned (kind R) (terms .rv) ≡ false)
   unfolding cutNumber planNumber
   cut-passed e =
       let wf = not (wellFormed R) in
@@ -85,12 +95,15 @@ module _ (R : List ℕ) (octets : ℕ) (terms : Terms) (g : ℕ) where
       let b = ltb 64 (blocks R (blockBits octets)) in
       let l9 : List (ℕ × Bool) = (9, b) ∷ [] in
       let l8 : List (ℕ × Bool) = (8, misallocated terms g) ∷ l9 in
-      let l7 : List (ℕ × Bool) = (7, a) ∷ l8 in
+      let v = misversioned (kind R) (terms .rv) in
+      let l16 : List (ℕ × Bool) = (16, v) ∷ l8 in
+      let l7 : List (ℕ × Bool) = (7, a) ∷ l16 in
       let p5 = passed 5 ((6, st) ∷ l7) wf (lit< tt) e in
       let p6 = passed 6 l7 st (lit< tt) (p5 .1) in
-      let p7 = passed 7 l8 a (lit< tt) (p6 .1) in
-      let p8 = passed 8 l9 (misallocated terms g) (lit< tt) (p7 .1) in
-      (passes 5 ((6, st) ∷ (7, a) ∷ l9) (p5 .0) ∙ passes 6 ((7, a) ∷ l9) (p6 .0) ∙ passes 7 l9 (p7 .0) ∙ p8 .1, p8 .0)
+      let p7 = passed 7 l16 a (lit< tt) (p6 .1) in
+      let p16 = passed 16 l8 v (lit< tt) (p7 .1) in
+      let p8 = passed 8 l9 (misallocated terms g) (lit< tt) (p16 .1) in
+      (passes 5 ((6, st) ∷ (7, a) ∷ l9) (p5 .0) ∙ passes 6 ((7, a) ∷ l9) (p6 .0) ∙ passes 7 l9 (p7 .0) ∙ p8 .1, p8 .0, p16 .0)
 
 -- ---- and then 10 and 11
 
@@ -122,22 +135,23 @@ module _ (R : List ℕ) (octets : ℕ) (terms : Terms) (g need room : ℕ) where
 
   -- ---- where none of them applies
 
-  pub request-passed : requestNumber R octets terms g need room ≡ 0 → (planNumber R octets ≡ 0) × (misallocated terms g ≡ false) × (need ≤ room)
+  pub request-passed : requestNumber R octets terms g need room ≡ 0 → (planNumber R octets ≡ 0) × (misallocated terms g ≡ false) × (need ≤ room) × (misversioned (kind R) (terms .rv) ≡ false)
   request-passed z =
       equal-or (cutNumber R octets terms g) 0
       (λ e.
       let cut = cut-passed R octets terms g e in
       let p10 = passed 10 ((11, ltb room need) ∷ []) (tooFewPlaces R octets terms g) (lit< tt) (sym (from-ten e) ∙ z) in
       let p11 = passed 11 [] (ltb room need) (lit< tt) (p10 .1) in
-      (cut .0, cut .1, ltb-false room need (p11 .0)))
+      (cut .0, cut .1, ltb-false room need (p11 .0), cut .2))
       (λ n. absurd (n (request-first n ∙ z)))
 
   -- the other way round, where the length is not refused with 7
-  pub request-none : (other : Bool) → other ≡ false → planNumber R octets ≡ 0 → misallocated terms g ≡ false → tooFewPlaces R octets terms g ≡ false → need ≤ room
+  pub request-none : (other : Bool) → other ≡ false → planNumber R octets ≡ 0 → misversioned (kind R) (terms .rv) ≡ false → misallocated terms g ≡ false → tooFewPlaces R octets terms g ≡ false → need ≤ room
       → answered (requestConditions R other octets terms g need room) ≡ 0
-  request-none other seven plan right enough fits =
+  request-none other seven plan version right enough fits =
       let p = plan-passed R octets plan in
       let l9 : List (ℕ × Bool) = (9, ltb 64 (blocks R (blockBits octets))) ∷ last in
       let l8 : List (ℕ × Bool) = (8, misallocated terms g) ∷ l9 in
-      judged-passed R ((7, other) ∷ l8) (p .0) ∙ passes 7 l8 seven ∙ passes 8 l9 right ∙ passes 9 last (le-ltb 64 (blocks R (blockBits octets)) (p .3))
+      let l16 : List (ℕ × Bool) = (16, misversioned (kind R) (terms .rv)) ∷ l8 in
+      judged-passed R ((7, other) ∷ l16) (p .0) ∙ passes 7 l16 seven ∙ passes 16 l8 version ∙ passes 8 l9 right ∙ passes 9 last (le-ltb 64 (blocks R (blockBits octets)) (p .3))
       ∙ passes 10 ((11, ltb room need) ∷ []) enough ∙ passes 11 [] (le-ltb room need fits) ∙ none-left

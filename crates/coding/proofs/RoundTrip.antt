@@ -2,13 +2,13 @@
 use mathlib.Core.Path.{_≡_, refl, sym, ap, _∙_, subst}
 use mathlib.Core.Bool.{Bool, true, false, cond, not}
 use mathlib.Core.List.{List, [], _∷_, _++_}
-use Prim.Native.Nat.{ℕ, zero, suc, _-_, _*_, _/_, _%_, _^_, _≤_, _<_}
+use Prim.Native.Nat.{ℕ, zero, suc, _+_, _-_, _*_, _/_, _%_, _^_, _≤_, _<_}
 use native.Mathlib.Nat.{le-refl}
 use native.Mathlib.Omega.{arith}
 use borrow.Author.Tests.{le-leb, eq-eqb, eqb-false}
 use lib.Dec.{eqb, lit<}
-use lib.ListN.{length, getD, take, drop, replicate}
-use lib.Seq.{take-at}
+use lib.ListN.{length, getD, take, drop, replicate, List·getD-eq-default}
+use lib.Seq.{take-at, getD-take, getD-drop}
 use Rattle.bits.specs.Bits.{AreBits, AreOctets, someOver, digits, withFiller}
 use Rattle.bits.specs.Numbers.{answered}
 use Rattle.bits.specs.Ranges.{firstBelow, within, listBelow}
@@ -18,16 +18,16 @@ use Rattle.bits.proofs.Answers.{applies, passes, none-left, Refusals, last-part
 use Rattle.bits.proofs.Digits.{digits-bits}
 use Rattle.bits.proofs.Lists.{bits-append, bits-take, bits-drop}
 use Rattle.bits.proofs.Over.{bits-not-over}
+use Rattle.bits.proofs.Ranges.{below-or}
 use Rattle.bits.proofs.Sums.{sum-same}
-use Rattle.bits.proofs.Listed.{length-list}
-use Rattle.profile.specs.Record.{z, rows, columns, table}
+use Rattle.profile.specs.Record.{kind, z, rows, columns, table}
 use Rattle.cutting.specs.Plan.{blockBits, blocks, ownBits, sizeIndex, places}
 use Rattle.cutting.specs.Transport.{transport}
 use Rattle.cutting.specs.Cutting.{ownStart, own, systematic}
 use Rattle.cutting.proofs.Plans.{plan-passed, plan-cut}
 use Rattle.cutting.proofs.Transported.{transport-bits}
 use Rattle.parity.specs.Coded.{withParity, checksWith, coded}
-use Rattle.matching.specs.Matching.{kept, matched}
+use Rattle.matching.specs.Matching.{kept, matched, turned, startOf, matchedFrom}
 use Rattle.coding.specs.Blocks.{codedBlock}
 use Rattle.coding.specs.Allocation.{share}
 use Rattle.coding.specs.Joining.{blockSent, radioBits}
@@ -40,6 +40,7 @@ use Rattle.coding.proofs.Answers.{send-allocated, send-done}
 use Rattle.coding.proofs.Joining.{length-joined, joined-bits}
 use Rattle.coding.proofs.Received.{sent-as-is, sent-as-of, block-only, some-from, received-is, received-sent, received-length, received-octets}
 use Rattle.coding.proofs.Shares.{shares-all, allocated}
+use Rattle.coding.proofs.Sent.{taken-most, block-length}
 use Rattle.coding.proofs.RequestNumber.{request-none}
 
 -- ---- what is sent are bits, of any block; and G of them, in any allocation that 8 does not refuse
@@ -93,6 +94,20 @@ coded-marks T rows columns z sys h =
     let n = firstBelow (2 ^ (rows * z)) (checksWith T rows columns z sys) in
     marks-append sys (digits (rows * z) n) h (marks-bits (digits (rows * z) n) (digits-bits (rows * z) n))
 
+-- marks turned
+marks-drop : (k : ℕ) (s : List ℕ) → AreMarks s → AreMarks (drop k s)
+marks-drop k s h j = subst (λ (x : ℕ). x < 3) (sym (getD-drop k s j 0)) (h (k + j))
+
+marks-take : (k : ℕ) (s : List ℕ) → AreMarks s → AreMarks (take k s)
+marks-take k s h j =
+    below-or j k
+    (λ l. subst (λ (x : ℕ). x < 3) (sym (getD-take k s j 0 l)) (h j))
+    (λ l. omega (arith, List·getD-eq-default (take k s) 0 {n = j} (omega (arith, taken-most k s))))
+
+turned-marks : (k : ℕ) (s : List ℕ) → AreMarks s → AreMarks (turned k s)
+unfolding turned
+turned-marks k s h = marks-append (drop k s) (take k s) (marks-drop k s h) (marks-take k s h)
+
 own-bits : (R : List ℕ) (b : ℕ) (bits : List ℕ) (r : ℕ) → AreBits bits → AreBits (own R b bits r)
 unfolding own
 own-bits R b bits r h = bits-take (ownBits b (blocks R b) r) (drop (ownStart R b r) bits) (bits-drop (ownStart R b r) bits h)
@@ -102,24 +117,26 @@ unfolding withFiller
 filled-marks n mine h = marks-append mine (replicate (n - length mine) 2) (marks-bits mine h) (marks-filler (n - length mine))
 
 block-bits : (R : List ℕ) (b : ℕ) (bits : List ℕ) (terms : Terms) (g r : ℕ) → AreBits bits → AreBits (blockSent R b bits terms g r)
-unfolding blockSent codedBlock systematic
+unfolding blockSent matchedFrom codedBlock systematic
 block-bits R b bits terms g r h =
     let i = sizeIndex R b in
-    matched-bits (codedBlock R b bits r) (share terms g (blocks R b) r .0)
-    (coded-marks (table R i) (rows R) (columns R) (z R i) (withFiller (places R b) (own R b bits r)) (filled-marks (places R b) (own R b bits r) (own-bits R b bits r h)))
+    let d = startOf (kind R) (terms .rv) (length (codedBlock R b bits r)) in
+    matched-bits (turned d (codedBlock R b bits r)) (share terms g (blocks R b) r .0)
+    (turned-marks d (codedBlock R b bits r)
+    (coded-marks (table R i) (rows R) (columns R) (z R i) (withFiller (places R b) (own R b bits r)) (filled-marks (places R b) (own R b bits r) (own-bits R b bits r h))))
 
 pub sent-bits : (R : List ℕ) (b : ℕ) (bits : List ℕ) (terms : Terms) (g : ℕ) → AreBits bits → AreBits (radioBits R b bits terms g)
 unfolding radioBits
 sent-bits R b bits terms g h = joined-bits (blockSent R b bits terms g) (blocks R b) (λ r l. block-bits R b bits terms g r h)
 
 pub sent-length : (R : List ℕ) (b : ℕ) (bits : List ℕ) (terms : Terms) (g : ℕ) → Allocated terms g (blocks R b) → length (radioBits R b bits terms g) ≡ g
-unfolding radioBits blockSent matched
+unfolding radioBits
 sent-length R b bits terms g h =
     let c = blocks R b in
     let f = blockSent R b bits terms g in
     let given : ℕ → ℕ = λ r. share terms g c r .0 in
     length-joined f c
-    ∙ sum-same c (λ r. length (f r)) given (λ r l. length-list (share terms g c r .0) (λ k. getD (kept (codedBlock R b bits r)) (k % length (kept (codedBlock R b bits r))) 0))
+    ∙ sum-same c (λ r. length (f r)) given (λ r l. block-length R b bits terms g r)
     ∙ shares-all terms g c h
 
 inside : (n : ℕ) → 1 ≤ n → n ≤ 2048 → within 1 2048 n ≡ true
@@ -162,7 +179,7 @@ module _ {R : List ℕ} (block : List ℕ) {terms : Terms} {g : ℕ} (h : Roomy 
   none-refuses room enough =
       let octets = length block in
       let p = plan-passed R octets (h .taken) in
-      request-none R octets terms g g room (not (within 1 2048 octets)) (ap not (inside octets (p .1) (p .2))) (h .taken) (h .allocation) (h .enough) enough
+      request-none R octets terms g g room (not (within 1 2048 octets)) (ap not (inside octets (p .1) (p .2))) (h .taken) (h .version) (h .allocation) (h .enough) enough
 
   pub sent-always : {out : List ℕ} {r : Written} {o : List ℕ} → g ≤ length out → Sent R block terms g out r o → (r .number ≡ 0) × (r .count ≡ g)
   sent-always {out} enough s =
@@ -175,6 +192,7 @@ receivable : (R : List ℕ) (octets : ℕ) (terms : Terms) (bits : List ℕ) →
 receivable R octets terms bits h single =
     record {
       taken = h .taken;
+      version = h .version;
       allocated = allocated terms (length bits) (blocks R (blockBits octets)) (h .allocation) (plan-cut R octets (h .taken) .some);
       single = single;
       room = h .room;
@@ -192,7 +210,7 @@ reception-number R a terms bits room h whole single fits =
     let l13 : List (ℕ × Bool) = (13, someWithoutRoom R octets terms g) ∷ l14 in
     let l12 : List (ℕ × Bool) = (12, someOver 1 bits) ∷ l13 in
     last-part (requestConditions R (notOctets a) octets terms g octets room) l12 tt
-    (request-none R octets terms g octets room (notOctets a) seven (h .taken) (h .allocation) (h .enough) fits)
+    (request-none R octets terms g octets room (notOctets a) seven (h .taken) (h .version) (h .allocation) (h .enough) fits)
     ∙ passes 12 l13 (bits-not-over bits single) ∙ passes 13 l14 (h .room)
 
 -- what receiving promises of them: they were decided on

@@ -1,25 +1,33 @@
 -- The code blocks of a transport block, one after the other: their own bits, their parity bits and their shares.
-use mathlib.Core.Path.{_≡_, refl, ap, ap₂, _∙_}
+use mathlib.Core.Path.{_≡_, refl, sym, ap, ap₂, _∙_}
 use mathlib.Core.List.{List}
 use Prim.Native.Nat.{ℕ, suc, _+_, _-_, _*_, _≤_, _<_}
 use native.Mathlib.Numerals.{add-one}
 use native.Mathlib.Omega.{arith}
 use lib.ListN.{length, take, drop}
+use lib.Seq.{take-all, length-take-le}
 use Rattle.bits.specs.Ranges.{sumBelow}
 use Rattle.bits.specs.Bits.{withFiller}
 use Rattle.bits.specs.declared.count.Terms.{Terms}
-use Rattle.bits.proofs.Listed.{length-list}
+use Rattle.bits.proofs.Filler.{length-filled}
+use Rattle.bits.proofs.Ranges.{below-or}
 use Rattle.bits.proofs.Sums.{sum-mono}
-use Rattle.profile.specs.Record.{rows, columns, table}
-use Rattle.cutting.specs.Plan.{blocks, ownBits, filler}
+use Rattle.profile.specs.Record.{kb, kind, z, rows, columns, table}
+use Rattle.profile.proofs.Shape.{columns-is}
+use Rattle.cutting.specs.Plan.{blocks, ownBits, sizeIndex, places, filler}
 use Rattle.cutting.specs.Cutting.{ownStart, own, systematic}
 use Rattle.cutting.specs.declared.Plan.{Plan}
+use Rattle.cutting.proofs.Plans.{Cut}
 use Rattle.cutting.proofs.PlanFields.{PlanFields}
 use Rattle.parity.specs.Coded.{coded}
-use Rattle.matching.specs.Matching.{matched}
+use Rattle.parity.proofs.Coded.{coded-length}
+use Rattle.matching.specs.Matching.{matched, turned, startOf, matchedFrom}
+use Rattle.matching.proofs.Start.{start-within}
+use Rattle.matching.proofs.Heard.{matched-length}
 use Rattle.coding.specs.Blocks.{codedBlock, sendable}
 use Rattle.coding.specs.Allocation.{share}
 use Rattle.coding.specs.Joining.{blockSent}
+use Rattle.coding.specs.steps.Sending.{versionStart}
 use Rattle.coding.specs.steps.Shares.{Allocated}
 use Rattle.coding.proofs.Shares.{shares-all}
 
@@ -32,6 +40,32 @@ start-none R b = refl
 pub start-turn : (R : List ℕ) (b r : ℕ) → ownStart R b (r + 1) ≡ ownStart R b r + ownBits b (blocks R b) r
 unfolding ownStart sumBelow
 start-turn R b r = rw add-one
+
+-- ---- the coded word and its start
+
+pub taken-most : (n : ℕ) (s : List ℕ) → length (take n s) ≤ n
+taken-most n s = below-or n (length s) (λ l. omega (arith, length-take-le n s (omega arith))) (λ l. omega (arith, ap length (take-all n s l)))
+
+module _ (R : List ℕ) (b : ℕ) (bits : List ℕ) (terms : Terms) (g r : ℕ) where
+  pub block-length : length (blockSent R b bits terms g r) ≡ share terms g (blocks R b) r .0
+  unfolding blockSent matchedFrom
+  block-length = matched-length _ _
+
+  module _ (cut : Cut R b) where
+    own-short : length (own R b bits r) ≤ kb R * z R (sizeIndex R b)
+    unfolding own
+    own-short =
+        omega (arith, taken-most (ownBits b (blocks R b) r) (drop (ownStart R b r) bits), cut .own-most r, cut .room, cut .product)
+
+    coded-size : length (codedBlock R b bits r) ≡ columns R * z R (sizeIndex R b)
+    unfolding codedBlock systematic
+    coded-size =
+        coded-length (table R (sizeIndex R b)) (rows R) (columns R) (z R (sizeIndex R b)) (withFiller (places R b) (own R b bits r)) (kb R)
+        (ap (λ (n : ℕ). length (withFiller n (own R b bits r))) (cut .product) ∙ length-filled (kb R * z R (sizeIndex R b)) (own R b bits r) own-short) (columns-is R)
+
+    pub block-sent-is : blockSent R b bits terms g r ≡ matched (turned (versionStart R b terms) (codedBlock R b bits r)) (share terms g (blocks R b) r .0)
+    unfolding blockSent matchedFrom versionStart
+    block-sent-is = rw coded-size
 
 module _ (R : List ℕ) (p : Plan) (k : PlanFields R p) where
   pub own-is : (r n : ℕ) → n ≡ ownBits (p .bits) (p .blocks) r → n ≡ ownBits (p .bits) (blocks R (p .bits)) r
@@ -66,6 +100,17 @@ module _ (R : List ℕ) (p : Plan) (k : PlanFields R p) where
     unfolding codedBlock
     coded-is = rw (cut-is, k .index-is, k .z-is)
 
+  -- the place from which it is sent, as the code finds it
+  pub start-is : (terms : Terms) (from : ℕ) → from ≡ startOf (kind R) (terms .rv) (columns R * p .z) → from ≡ versionStart R (p .bits) terms
+  unfolding versionStart
+  start-is terms from e = e ∙ rw (k .z-is)
+
+  pub start-in : (terms : Terms) → terms .rv ≤ 3 → (from : ℕ) → from ≡ versionStart R (p .bits) terms → from ≤ columns R * p .z
+  unfolding versionStart
+  start-in terms low from e =
+      let is : columns R * p .z ≡ columns R * z R (sizeIndex R (p .bits)) = rw (k .z-is) in
+      omega (arith, e, is, start-within (kind R) (terms .rv) (columns R * z R (sizeIndex R (p .bits))) low)
+
   -- ---- shares
 
   module _ (terms : Terms) (g : ℕ) where
@@ -73,8 +118,7 @@ module _ (R : List ℕ) (p : Plan) (k : PlanFields R p) where
     share-is r e q = q ∙ ap (λ (c : ℕ). share terms g c r .0) (k .blocks-is)
 
     pub length-block : (bits : List ℕ) (r : ℕ) → length (blockSent R (p .bits) bits terms g r) ≡ share terms g (blocks R (p .bits)) r .0
-    unfolding blockSent matched
-    length-block bits r = length-list _ _
+    length-block bits r = block-length R (p .bits) bits terms g r
 
     pub share-fits : Allocated terms g (p .blocks) → (r at e : ℕ) → r < p .blocks → at ≡ sumBelow r (λ i. share terms g (blocks R (p .bits)) i .0)
         → e ≡ share terms g (blocks R (p .bits)) r .0 → at + e ≤ g
@@ -91,8 +135,11 @@ module _ (R : List ℕ) (p : Plan) (k : PlanFields R p) where
     share-turn r at e a q = rw (add-one r) (ap₂ (λ (x y : ℕ). x + y) a q)
 
     -- what the code writes of block r is what is sent of it
-    pub block-is : (bits : List ℕ) (r start n e : ℕ) → start ≡ ownStart R (p .bits) r → n ≡ ownBits (p .bits) (p .blocks) r
-        → e ≡ share terms g (blocks R (p .bits)) r .0
-        → matched (coded (table R (p .index)) (rows R) (columns R) (p .z) (withFiller (p .places) (take n (drop start bits)))) e ≡ blockSent R (p .bits) bits terms g r
-    unfolding blockSent
-    block-is bits r start n e s q d = ap₂ matched (coded-is bits r start n s q) d
+    pub block-is : (bits : List ℕ) (r start n from e : ℕ) → start ≡ ownStart R (p .bits) r → n ≡ ownBits (p .bits) (p .blocks) r
+        → from ≡ versionStart R (p .bits) terms → e ≡ share terms g (blocks R (p .bits)) r .0
+        → matched (turned from (coded (table R (p .index)) (rows R) (columns R) (p .z) (withFiller (p .places) (take n (drop start bits))))) e
+        ≡ blockSent R (p .bits) bits terms g r
+    block-is bits r start n from e s q v d =
+        ap₂ (λ (w : List ℕ) (i : ℕ). matched (turned from w) i) (coded-is bits r start n s q) d
+        ∙ ap (λ (i : ℕ). matched (turned i (codedBlock R (p .bits) bits r)) (share terms g (blocks R (p .bits)) r .0)) v
+        ∙ sym (block-sent-is R (p .bits) bits terms g r (k .cut))

@@ -1,15 +1,16 @@
--- The radio bits (document 01, steps 5 and 6): the blocks' bits one behind the other. R is the profile's record, b is B, bits the transport bits.
+-- The radio bits (document 01, steps 5 and 6; document 02, CR 3): the blocks' bits one behind the other. R is the profile's record, b is B, bits the transport bits.
 use mathlib.Core.List.{List, [], _++_}
 use Prim.Native.Nat.{ℕ, zero, suc}
 use Rattle.bits.specs.declared.count.Terms.{Terms}
+use Rattle.profile.specs.Record.{kind}
 use Rattle.cutting.specs.Plan.{blocks}
-use Rattle.matching.specs.Matching.{matched}
+use Rattle.matching.specs.Matching.{matchedFrom}
 use Rattle.coding.specs.Blocks.{codedBlock}
 use Rattle.coding.specs.Allocation.{share}
 
--- block r's bits: its share of the allocation
+-- block r's bits: its share of the allocation, from the start that the profile's type and the redundancy version give
 unfoldable pub blockSent : List ℕ → ℕ → List ℕ → Terms → ℕ → ℕ → List ℕ
-blockSent R b bits terms g r = matched (codedBlock R b bits r) (share terms g (blocks R b) r .0)
+blockSent R b bits terms g r = matchedFrom (kind R) (terms .rv) (codedBlock R b bits r) (share terms g (blocks R b) r .0)
 
 -- f 0, .., f (n − 1) one behind the other: "Each block's bits go straight into its own stretch in the middle of the output"
 unfoldable pub joined : ℕ → (ℕ → List ℕ) → List ℕ

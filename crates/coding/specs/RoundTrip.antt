@@ -7,14 +7,18 @@ use lib.ListN.{length, take}
 use Rattle.bits.specs.Bits.{AreOctets}
 use Rattle.bits.specs.declared.number.Written.{Written}
 use Rattle.bits.specs.declared.count.Terms.{Terms}
+use Rattle.profile.specs.Record.{kind}
 use Rattle.cutting.specs.Promises.{planNumber}
+use Rattle.matching.specs.Matching.{misversioned}
 use Rattle.coding.specs.Allocation.{misallocated}
 use Rattle.coding.specs.Receiving.{someWithoutRoom}
 use Rattle.coding.specs.Promises.{tooFewPlaces}
 
--- "Take an accepted profile, block length and allocation in which every code block has room for all its coded bits that are not filler"
+-- "Take an accepted profile, block length and allocation in which every code block has room for all its coded bits that are not filler", and by document 02,
+-- CR 3, a redundancy version, "receiver and sender using the same one"
 pub record Roomy (R : List ℕ) (octets : ℕ) (terms : Terms) (g : ℕ) : Type 0 where
   pub taken : planNumber R octets ≡ 0
+  pub version : misversioned (kind R) (terms .rv) ≡ false
   pub allocation : misallocated terms g ≡ false
   pub enough : tooFewPlaces R octets terms g ≡ false
   pub room : someWithoutRoom R octets terms g ≡ false

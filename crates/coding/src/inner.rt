@@ -1,5 +1,4 @@
 // For the layers above: the numbers that are answered before any block is coded or looked at, and each block's share and room.
-use crate::blocks;
 use bits::count::CodedBits;
 use bits::count::SymbolPlaces;
 use bits::count::Terms;
@@ -14,6 +13,7 @@ use bits::number::NO_ROOM;
 use bits::number::PARAMETER;
 use bits::number::SHORT_OUTPUT;
 use bits::number::TOO_FEW_PLACES;
+use bits::number::VERSION;
 use cutting::Plan;
 ghost use mathlib.Core.Path.{_≡_};
 ghost use Prim.Native.Nat.{_≤_};
@@ -52,10 +52,10 @@ pub fn share_of(terms: Terms, g: CodedBits, c: usize, r: usize) -> CodedBits
 // N of block r: its coded places less its filler, which is its places less its own bits.
 pub fn sendable(profile: &[u8], plan: Plan, r: usize) -> CodedBits
     requires { ⌜ SomePlan (now profile) plan ⌝ }
-    ensures { λ n. ⌜ (n .0 ≡ sendable (now (profile .entry)) (plan .bits) r) × (n .0 ≤ 2592) ⌝ }
+    ensures { λ n. ⌜ (n .0 ≡ sendable (now (profile .entry)) (plan .bits) r) × (n .0 ≤ 4860) ⌝ }
 {
     let own = cutting::inner::own_bits(plan.bits, plan.blocks, r);
-    let all = blocks::size(profile, plan);
+    let all = block::inner::size(profile, plan);
     let n = all - (plan.places - own);
     CodedBits(n)
 }
@@ -78,7 +78,7 @@ pub fn lacks_room(profile: &[u8], plan: Plan, terms: Terms, g: CodedBits) -> boo
     false
 }
 
-// 5 to 9, tested in their order. The profile is judged once.
+// 5 to 9 and 16, tested in their order: 16 between 7 and 8. The profile is judged once.
 pub fn cut_number(profile: &[u8], octets: usize, terms: Terms, g: CodedBits) -> u32
     ensures { λ r. ⌜ r ≡ cutNumber (now (profile .entry)) octets terms (g .0) ⌝ }
 {
@@ -91,13 +91,19 @@ pub fn cut_number(profile: &[u8], octets: usize, terms: Terms, g: CodedBits) -> 
     if number == BLOCK_LENGTH {
         return BLOCK_LENGTH;
     }
-    if is_misallocated(terms, g) {
+    let kind = profile::inner::kind(profile);
+    let version = matching::inner::is_misversioned(kind, terms.rv);
+    let allocation = is_misallocated(terms, g);
+    if version {
+        return VERSION;
+    }
+    if allocation {
         return PARAMETER;
     }
     number
 }
 
-// 5 to 11, where `need` octets are to be written into `room`. Nothing is divided before 8 is decided.
+// 5 to 11 and 16, where `need` octets are to be written into `room`. Nothing is divided before 8 is decided.
 pub fn request_number(
     profile: &[u8],
     octets: usize,
@@ -133,7 +139,7 @@ fn octets_of(a: usize) -> usize
     a / 8
 }
 
-// 5 to 13, tested in their order.
+// 5 to 13 and 16, tested in their order.
 pub fn reception_number(profile: &[u8], a: usize, terms: Terms, bits: &[u8], room: usize) -> u32
     ensures { λ r. ⌜ r ≡ receptionNumber (now (profile .entry)) a terms (now (bits .entry)) room ⌝ }
 {

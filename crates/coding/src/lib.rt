@@ -1,5 +1,4 @@
 // From a transport block to radio bits and back: sending and receiving.
-mod blocks;
 pub mod inner;
 mod receiving;
 mod sending;

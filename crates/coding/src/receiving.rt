@@ -1,27 +1,29 @@
 // Receiving: every block's stretch is gathered into a word and tested in turn, and the word's own bits are kept.
-use crate::blocks;
 use crate::inner;
 use bits::count::CodedBits;
 use bits::count::Terms;
 use checking::Checker;
 use cutting::Plan;
+ghost use mathlib.Core.Path.{_≡_};
 ghost use Prim.Native.Nat.{_+_, _≤_};
 ghost use lib.ListN.{length};
 ghost use Rattle.cutting.specs.Plan.{blocks};
-ghost use Rattle.coding.specs.steps.Blocks.{Fits};
+ghost use Rattle.block.specs.steps.Blocks.{Fits};
+ghost use Rattle.coding.specs.steps.Sending.{versionStart};
 ghost use Rattle.coding.specs.steps.Receiving.{ReceivablePlan, Rebuilt};
 
-// Whether transport bits are sent as these bits. The transport bits are laid in front of `room` on the way; `word` is room for one coded block.
+// Whether transport bits are sent as these bits, each block from the place `from` of its coded word on. The transport bits are laid in front of `room` on the way; `word` is room for one coded block.
 fn rebuild(
     profile: &[u8],
     plan: Plan,
     bits: &[u8],
     terms: Terms,
+    from: usize,
     checker: Checker,
     word: &mut [u8],
     room: &mut [u8],
 ) -> bool
-    requires { ⌜ ReceivablePlan (now profile) terms (now bits) plan × Fits (now profile) plan (now word) × (16408 ≤ length (now room)) ⌝ }
+    requires { ⌜ ReceivablePlan (now profile) terms (now bits) plan × (from ≡ versionStart (now profile) (plan .bits) terms) × Fits (now profile) plan (now word) × (16408 ≤ length (now room)) ⌝ }
     ensures { λ r. ⌜ Rebuilt (now (profile .entry)) terms (now (bits .entry)) (plan .bits) r (now (room .exit)) ⌝ }
 {
     let g = CodedBits(bits.len());
@@ -33,7 +35,7 @@ fn rebuild(
     while r < c {
         let own = cutting::inner::own_bits(b, c, r);
         let e = inner::share_of(terms, g, c, r);
-        if !blocks::is_sent_as(profile, plan, &bits[at..at + e.0], own, checker, word) {
+        if !block::inner::is_sent_as(profile, plan, &bits[at..at + e.0], own, from, checker, word) {
             return false;
         }
         bits::inner::lay(word, 0, room, start, own);
@@ -56,7 +58,17 @@ pub fn rebuild_bits(
     requires { ⌜ ReceivablePlan (now profile) terms (now bits) plan × (16408 ≤ length (now room)) ⌝ }
     ensures { λ r. ⌜ Rebuilt (now (profile .entry)) terms (now (bits .entry)) (plan .bits) r (now (room .exit)) ⌝ }
 {
-    let n = blocks::size(profile, plan);
-    let mut word = [0u8; 2592];
-    rebuild(profile, plan, bits, terms, checker, &mut word[..n], room)
+    let n = block::inner::size(profile, plan);
+    let from = block::inner::start(profile, plan, terms.rv);
+    let mut word = [0u8; 4860];
+    rebuild(
+        profile,
+        plan,
+        bits,
+        terms,
+        from,
+        checker,
+        &mut word[..n],
+        room,
+    )
 }

@@ -1,5 +1,4 @@
 // Sending transport bits: each block's bits straight into its own stretch of the output.
-use crate::blocks;
 use crate::inner;
 use bits::count::CodedBits;
 use bits::count::Terms;
@@ -7,21 +6,22 @@ use cutting::Plan;
 ghost use mathlib.Core.Path.{_≡_};
 ghost use mathlib.Core.List.{_++_};
 ghost use lib.ListN.{drop};
+ghost use Rattle.block.specs.steps.Blocks.{Fits};
 ghost use Rattle.coding.specs.Joining.{radioBits};
-ghost use Rattle.coding.specs.steps.Blocks.{Fits};
-ghost use Rattle.coding.specs.steps.Sending.{Sendable};
+ghost use Rattle.coding.specs.steps.Sending.{versionStart, Sendable};
 
-// Writes the blocks one behind the other; `word` is room for one coded block.
+// Writes the blocks one behind the other, each from the place `from` of its coded word on; `word` is room for one.
 fn send_blocks(
     profile: &[u8],
     plan: Plan,
     bits: &[u8],
     terms: Terms,
     g: CodedBits,
+    from: usize,
     word: &mut [u8],
     out: &mut [u8],
 )
-    requires { ⌜ Sendable (now profile) plan (now bits) terms (g .0) (now out) × Fits (now profile) plan (now word) ⌝ }
+    requires { ⌜ Sendable (now profile) plan (now bits) terms (g .0) (now out) × (from ≡ versionStart (now profile) (plan .bits) terms) × Fits (now profile) plan (now word) ⌝ }
     ensures { λ _. ⌜ now (out .exit) ≡ radioBits (now (profile .entry)) (plan .bits) (now (bits .entry)) terms (g .0) ++ drop (g .0) (now (out .entry)) ⌝ }
 {
     let b = plan.bits;
@@ -32,7 +32,17 @@ fn send_blocks(
     while r < c {
         let own = cutting::inner::own_bits(b, c, r);
         let e = inner::share_of(terms, g, c, r);
-        blocks::send_block(profile, plan, bits, start, own, e, word, &mut out[at..]);
+        block::inner::send_block(
+            profile,
+            plan,
+            bits,
+            start,
+            own,
+            from,
+            e,
+            word,
+            &mut out[at..],
+        );
         start += own;
         at += e.0;
         r += 1;
@@ -51,7 +61,8 @@ pub fn send_bits(
     requires { ⌜ Sendable (now profile) plan (now bits) terms (g .0) (now out) ⌝ }
     ensures { λ _. ⌜ now (out .exit) ≡ radioBits (now (profile .entry)) (plan .bits) (now (bits .entry)) terms (g .0) ++ drop (g .0) (now (out .entry)) ⌝ }
 {
-    let n = blocks::size(profile, plan);
-    let mut room = [0u8; 2592];
-    send_blocks(profile, plan, bits, terms, g, &mut room[..n], out);
+    let n = block::inner::size(profile, plan);
+    let from = block::inner::start(profile, plan, terms.rv);
+    let mut room = [0u8; 4860];
+    send_blocks(profile, plan, bits, terms, g, from, &mut room[..n], out);
 }

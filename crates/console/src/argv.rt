@@ -37,8 +37,7 @@ fn width(word: &[u8]) -> usize
     if list::has(b"--text\n--plain\n", word) {
         return 1;
     }
-    // The first with a value comes with the first call that has one.
-    if list::has(b"", word) {
+    if list::has(b"--rv\n", word) {
         return 2;
     }
     0
@@ -148,15 +147,36 @@ pub struct Number {
     pub bad: bool,
 }
 
-// The number that word k holds, from 0 to `most`. Another word is named on standard error.
+// The number that word k holds, from 0 to `most`.
 pub fn read_number(k: usize, name: &[u8], most: usize) -> Number
     ensures { λ r. ⌜ r .value ≤ most ⌝ }
 {
     let mut word = io::buffer();
     let n = os::arg(place(k), &mut word);
-    let number = value(&word[..n], most);
+    named(&word[..n], name, most)
+}
+
+// The number that stands behind an option, from 0 to `most`, or this one where the option is not given.
+pub fn read_option(option: &[u8], name: &[u8], most: usize, otherwise: usize) -> Number {
+    let at = find(option);
+    if at >= os::arg_count() {
+        return Number {
+            value: otherwise,
+            bad: false,
+        };
+    }
+    let mut word = io::buffer();
+    let n = os::arg(at + 1, &mut word);
+    named(&word[..n], name, most)
+}
+
+// The number that a word holds. Another word is named on standard error.
+fn named(word: &[u8], name: &[u8], most: usize) -> Number
+    ensures { λ r. ⌜ r .value ≤ most ⌝ }
+{
+    let number = value(word, most);
     if number.bad {
-        complain(&word[..n], name, most);
+        complain(word, name, most);
     }
     number
 }

@@ -14,7 +14,7 @@ the private shelf is not well formed
 the public shelf is not well formed
 neither shelf has the record
 the profile record is not well formed
-a table of the profile is no staircase
+a table of the profile is no staircase, or its extension is wrong
 the transport block is not 1 to 2048 octets
 N_L, Q_m or G is not one that can be sent with
 the block takes more than 64 code blocks
@@ -24,6 +24,7 @@ a received octet is over 1
 a code block has no room for all its coded bits
 no block is sent as these bits
 unused: never answered, since every code block has parity bits with which it checks
+the redundancy version is over 3, or is not 0 and the profile is of Type 1
 ";
     page::put(list::line(all, number as usize), page, at)
 }

@@ -52,5 +52,5 @@ module _ (R : List ℕ) (p : Plan) (k : PlanFields R p) where
   pub places-product : p .places ≡ kb R * p .z
   places-product = k .places-is ∙ k .cut .product ∙ ap (λ (n : ℕ). kb R * n) (sym (k .z-is))
 
-  pub word-most : columns R * p .z ≤ 2592
+  pub word-most : columns R * p .z ≤ 4860
   word-most = rw (k .z-is) (k .cut .coded-high)

@@ -64,7 +64,7 @@ pub record Cut (R : List ℕ) (b : ℕ) : Type 0 where
   pub least : (i : ℕ) → i < sizeIndex R b → kb R * z R i < ceil b (blocks R b)
   pub product : places R b ≡ kb R * z R (sizeIndex R b)
   pub places-high : places R b ≤ 1620
-  pub coded-high : columns R * z R (sizeIndex R b) ≤ 2592
+  pub coded-high : columns R * z R (sizeIndex R b) ≤ 4860
   pub own-some : (r : ℕ) → 1 ≤ ownBits b (blocks R b) r
   pub own-most : (r : ℕ) → ownBits b (blocks R b) r ≤ ceil b (blocks R b)
   pub own-sum : sumBelow (blocks R b) (ownBits b (blocks R b)) ≡ b

@@ -121,7 +121,11 @@ fn asked_for(octets: usize, g: CodedBits) -> Parameters {
         tenant: TENANT,
         profile: SHARED,
         octets,
-        terms: Terms { nl: 1, qm: 2 },
+        terms: Terms {
+            nl: 1,
+            qm: 2,
+            rv: 0,
+        },
         g,
         bad: false,
     }

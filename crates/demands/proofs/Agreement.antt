@@ -76,8 +76,8 @@ row-sums a b = rows-summed-agree a b
 
 -- ---- matching::rate_match, coding::send, coding::receive
 
-pub rate-match : {coded : List ℕ} {e : ℕ} {out : List ℕ} {r r' : Written} {o o' : List ℕ}
-    → RateMatched coded e out r o → RateMatched coded e out r' o' → (r ≡ r') × (o ≡ o')
+pub rate-match : {coded : List ℕ} {kind rv e : ℕ} {out : List ℕ} {r r' : Written} {o o' : List ℕ}
+    → RateMatched coded kind rv e out r o → RateMatched coded kind rv e out r' o' → (r ≡ r') × (o ≡ o')
 rate-match a b = rate-match-agree a b
 
 pub send : {R block : List ℕ} {terms : Terms} {g : ℕ} {out : List ℕ} {r r' : Written} {o o' : List ℕ}

@@ -19,8 +19,8 @@ use Rattle.bits.specs.declared.count.Terms.{Terms}
 use Rattle.bits.proofs.Answers.{when-done}
 use Rattle.bits.proofs.Listed.{length-list, at-list}
 use Rattle.bits.proofs.Ranges.{all-at, all-of}
-use Rattle.profile.specs.Record.{kb, m, t, z, offset, rows, columns, tableSize, table, entry, headerRight, rises, sizesRight, offsetDue, offsetsRight, endsRight, shiftRight, tableRight, wellFormed}
-use Rattle.profile.specs.Staircase.{filled, filledBetween, firstColumn, nextDue, nextColumn, staircase, staircases}
+use Rattle.profile.specs.Record.{kb, m, x, kind, t, z, offset, rows, columns, tableSize, table, entry, kindRight, headerRight, rises, sizesRight, offsetDue, offsetsRight, endsRight, shiftRight, tableRight, wellFormed}
+use Rattle.profile.specs.Staircase.{filled, filledBetween, firstColumn, nextDue, nextColumn, staircase, rowEnds, extensionRow, extended, staircases}
 use Rattle.parity.specs.Matrix.{square, spread, bitAt, rowEven, checks}
 use Rattle.parity.specs.Promises.{hasSize, tableFor, unfit}
 use Rattle.checking.specs.Promises.{checkNumber, WordChecked, sumsNumber, RowsSummed}
@@ -131,11 +131,11 @@ worked-sums = refl
 
 -- the record of that table
 abbrev record5 : List ℕ
-record5 = 0 ∷ 1 ∷ 0 ∷ 3 ∷ 0 ∷ 1 ∷ 0 ∷ 5 ∷ 0 ∷ 10 ∷ five
+record5 = 0 ∷ 1 ∷ 0 ∷ 3 ∷ 0 ∷ 0 ∷ 0 ∷ 1 ∷ 0 ∷ 1 ∷ 0 ∷ 5 ∷ 0 ∷ 14 ∷ five
 
 pub worked-numbers : _≡_ {A = List ℕ}
     (sumsNumber [] 5 good 15 ∷ sumsNumber record5 4 good 15 ∷ sumsNumber record5 5 good 14 ∷ sumsNumber record5 5 (2 ∷ drop 1 good) 15 ∷ sumsNumber record5 5 good 15 ∷ [])
     (5 ∷ 8 ∷ 11 ∷ 12 ∷ 0 ∷ [])
-unfolding sumsNumber answered someOver unfit hasSize sumBelow anyBelow allBelow numberAt kb m t z offset rows columns tableSize table entry wellFormed headerRight rises sizesRight offsetDue
-    offsetsRight endsRight shiftRight tableRight filled filledBetween firstColumn nextDue nextColumn staircase staircases
+unfolding sumsNumber answered someOver unfit hasSize sumBelow anyBelow allBelow numberAt kb m x kind t z offset rows columns tableSize table entry wellFormed kindRight headerRight rises sizesRight offsetDue
+    offsetsRight endsRight shiftRight tableRight filled filledBetween firstColumn nextDue nextColumn staircase rowEnds extensionRow extended staircases
 worked-numbers = refl

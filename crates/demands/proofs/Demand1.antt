@@ -4,10 +4,10 @@
 use mathlib.Core.Path.{_≡_, refl, sym, ap, _∙_}
 use mathlib.Core.Bool.{false}
 use mathlib.Core.List.{List, [], _++_}
-use Prim.Native.Nat.{ℕ, _+_, _*_, _/_, _%_}
+use Prim.Native.Nat.{ℕ, _+_, _*_, _/_}
 use denote.Ref.{RefT, now, ptr}
 use borrow.Author.Tests.{ltb-false}
-use lib.ListN.{length, getD}
+use lib.ListN.{length}
 use Rattle.bits.specs.Numbers.{whenDone}
 use Rattle.bits.specs.declared.number.Written.{Written}
 use Rattle.bits.specs.declared.count.Terms.{Terms}
@@ -35,8 +35,9 @@ use Rattle.parity.proofs.Coded.{coded-length}
 use Rattle.checking.specs.Promises.{checkConditions, checkNumber, WordChecked, sumsConditions, sumsNumber, RowsSummed}
 use Rattle.checking.specs.Sums.{rowSum, rowSums}
 use Rattle.checking.specs.declared.Verdict.{Verdict}
-use Rattle.matching.specs.Matching.{kept, matched}
+use Rattle.matching.specs.Matching.{turned, startOf, matchedFrom}
 use Rattle.matching.specs.Promises.{matchConditions, matchNumber, RateMatched}
+use Rattle.matching.proofs.Heard.{matched-length}
 use Rattle.coding.specs.Joining.{radioBits}
 use Rattle.coding.specs.Receiving.{receivedBlock}
 use Rattle.coding.specs.Promises.{sendConditions, sendNumber, Sent, receiveConditions, receiveNumber, Received}
@@ -100,9 +101,9 @@ code-answers : (R : List ℕ) (z : ℕ) (places : List ℕ) (room : ℕ) {r : �
 unfolding codeNumber Refusals
 code-answers R z places room e = answers (codeConditions R z places room) tt e
 
-match-answers : (places : List ℕ) (e room : ℕ) {r : ℕ} → r ≡ matchNumber places e room → Answers r (matchConditions places e room)
+match-answers : (places : List ℕ) (kind rv e room : ℕ) {r : ℕ} → r ≡ matchNumber places kind rv e room → Answers r (matchConditions places kind rv e room)
 unfolding matchNumber Refusals
-match-answers places e room q = answers (matchConditions places e room) tt q
+match-answers places kind rv e room q = answers (matchConditions places kind rv e room) tt q
 
 send-answers : (R block : List ℕ) (terms : Terms) (g room : ℕ) {r : ℕ} → r ≡ sendNumber R block terms g room → Answers r (sendConditions R block terms g room)
 unfolding sendNumber Refusals
@@ -237,28 +238,28 @@ pub row-sums-alike : {R : List ℕ} {z : ℕ} {word out : List ℕ} {r : Written
 row-sums-alike {R} {z} {word} e a b = outputs.alike (sums-fits R z word) e (sums-writes a) (sums-writes b)
 
 -- matching::rate_match
-match-fits : (places : List ℕ) (e : ℕ) → outputs.Fitting (matchNumber places e) e (matched places e)
-unfolding NoneHolds matched
-match-fits places e =
+match-fits : (places : List ℕ) (kind rv e : ℕ) → outputs.Fitting (matchNumber places kind rv e) e (matchedFrom kind rv places e)
+unfolding NoneHolds matchedFrom
+match-fits places kind rv e =
     record {
-      size = λ room q. length-list e (λ k. getD (kept places) (k % length (kept places)) 0);
-      room = λ room q. let h = match-answers places e room (sym q) .only-done refl in ltb-false room e (h .1 .0);
+      size = λ room q. matched-length (turned (startOf kind rv (length places)) places) e;
+      room = λ room q. let h = match-answers places kind rv e room (sym q) .only-done refl in ltb-false room e (h .1 .1 .1 .0);
     }
 
-match-writes : {places : List ℕ} {e : ℕ} {out : List ℕ} {r : Written} {o : List ℕ} → RateMatched places e out r o
-    → outputs.Writes (matchNumber places e) e (matched places e) out r o
+match-writes : {places : List ℕ} {kind rv e : ℕ} {out : List ℕ} {r : Written} {o : List ℕ} → RateMatched places kind rv e out r o
+    → outputs.Writes (matchNumber places kind rv e) e (matchedFrom kind rv places e) out r o
 match-writes a = record { number = a .number; count = a .count; output = a .output }
 
-pub rate-match-number : {places : List ℕ} {e : ℕ} {out : List ℕ} {r : Written} {o : List ℕ}
-    → RateMatched places e out r o → Answers (r .number) (matchConditions places e (length out))
-rate-match-number {places} {e} {out} a = match-answers places e (length out) (a .number)
+pub rate-match-number : {places : List ℕ} {kind rv e : ℕ} {out : List ℕ} {r : Written} {o : List ℕ}
+    → RateMatched places kind rv e out r o → Answers (r .number) (matchConditions places kind rv e (length out))
+rate-match-number {places} {kind} {rv} {e} {out} a = match-answers places kind rv e (length out) (a .number)
 
-pub rate-match-confined : {places : List ℕ} {e : ℕ} {out : List ℕ} {r : Written} {o : List ℕ} → RateMatched places e out r o → Confined out r o
-rate-match-confined {places} {e} a = outputs.confined (match-fits places e) (match-writes a)
+pub rate-match-confined : {places : List ℕ} {kind rv e : ℕ} {out : List ℕ} {r : Written} {o : List ℕ} → RateMatched places kind rv e out r o → Confined out r o
+rate-match-confined {places} {kind} {rv} {e} a = outputs.confined (match-fits places kind rv e) (match-writes a)
 
-pub rate-match-alike : {places : List ℕ} {e : ℕ} {out : List ℕ} {r : Written} {o other : List ℕ} {s : Written} {u : List ℕ} → length out ≡ length other
-    → RateMatched places e out r o → RateMatched places e other s u → Alike r o s u
-rate-match-alike {places} {e} q a b = outputs.alike (match-fits places e) q (match-writes a) (match-writes b)
+pub rate-match-alike : {places : List ℕ} {kind rv e : ℕ} {out : List ℕ} {r : Written} {o other : List ℕ} {s : Written} {u : List ℕ} → length out ≡ length other
+    → RateMatched places kind rv e out r o → RateMatched places kind rv e other s u → Alike r o s u
+rate-match-alike {places} {kind} {rv} {e} q a b = outputs.alike (match-fits places kind rv e) q (match-writes a) (match-writes b)
 
 -- coding::send
 send-fits : (R block : List ℕ) (terms : Terms) (g : ℕ) → outputs.Fitting (sendNumber R block terms g) g (radioBits R (blockBits (length block)) (transport block) terms g)
@@ -266,7 +267,7 @@ unfolding NoneHolds
 send-fits R block terms g =
     record {
       size = λ room e. sent-length R (blockBits (length block)) (transport block) terms g (send-allocated R block terms g room e);
-      room = λ room e. let h = send-answers R block terms g room (sym e) .only-done refl in ltb-false room g (h .1 .1 .1 .1 .1 .1 .0);
+      room = λ room e. let h = send-answers R block terms g room (sym e) .only-done refl in ltb-false room g (h .1 .1 .1 .1 .1 .1 .1 .0);
     }
 
 send-writes : {R block : List ℕ} {terms : Terms} {g : ℕ} {out : List ℕ} {r : Written} {o : List ℕ} → Sent R block terms g out r o
@@ -294,7 +295,7 @@ unfolding NoneHolds
 receive-fits R a terms bits =
     record {
       size = λ room e. received-size R (a / 8) terms bits;
-      room = λ room e. let h = receive-answers R a terms bits room (sym e) .only-done refl in ltb-false room (a / 8) (h .1 .1 .1 .1 .1 .1 .0);
+      room = λ room e. let h = receive-answers R a terms bits room (sym e) .only-done refl in ltb-false room (a / 8) (h .1 .1 .1 .1 .1 .1 .1 .0);
     }
 
 receive-writes : {R : List ℕ} {a : ℕ} {terms : Terms} {bits out : List ℕ} {r : Written} {o : List ℕ} → Received R a terms bits out r o

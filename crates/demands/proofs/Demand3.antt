@@ -16,7 +16,8 @@ use Rattle.shelf.proofs.Hosted.{hosted-found}
 use Rattle.demands.proofs.Hosted.{planned-found}
 
 -- "Take an accepted profile, block length and allocation in which every code block has room for all its coded bits that are not filler": Roomy, of
--- coding/specs/RoundTrip; "and a receiving buffer that holds the block": octets ≤ length buf. Sending is into an output that holds the bits: g ≤ length out
+-- coding/specs/RoundTrip, with any redundancy version that the type may have (each by its number in Versions); "and a receiving buffer that holds the
+-- block": octets ≤ length buf. Sending is into an output that holds the bits: g ≤ length out
 
 -- ---- `send` and `receive`
 

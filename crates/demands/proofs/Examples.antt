@@ -1,12 +1,12 @@
--- No statement is empty: with the toy profile of document 01 there are sendings and receptions that are accepted, and every refusal from 1 to 14 is
--- reached. The searches of 14 and of what is received are never computed; the laws decide them.
+-- No statement is empty: with the toy profile of document 01, and one of type 2, there are sendings and receptions that are accepted, and every refusal
+-- from 1 to 14, and 16, is reached. The searches of 14 and of what is received are never computed; the laws decide them.
 use mathlib.Core.Path.{_≡_, refl, sym, ap, _∙_, subst}
 use mathlib.Core.Bool.{false, true≢false}
 use mathlib.Core.List.{List, [], _∷_, _++_, map}
-use Prim.Native.Nat.{ℕ, zero, suc, _-_, _*_, _%_, _≤_}
+use Prim.Native.Nat.{ℕ, zero, suc, _-_, _*_, _%_, _≤_, _<_}
 use native.Mathlib.Omega.{arith}
 use lib.Dec.{lit<, lit≤}
-use lib.ListN.{length, getD, take, drop, replicate, set}
+use lib.ListN.{length, getD, take, drop, replicate, set, length-replicate}
 use Rattle.bits.specs.Bits.{AreOctets, someOver, numberAt, readOn, valueOf, unpacked, digits, withFiller}
 use Rattle.bits.specs.Counts.{ceil, usable, placeBits, symbolPlacesOf, codedBitsOf}
 use Rattle.bits.specs.Numbers.{answered, whenDone}
@@ -16,8 +16,8 @@ use Rattle.bits.specs.declared.count.Terms.{Terms}
 use Rattle.bits.proofs.Over.{over-none-bits}
 use Rattle.checksum.specs.Crc.{reduce, divideOn, remainder, checksum, attached}
 use Rattle.checksum.proofs.Attachment.{checks-complete}
-use Rattle.profile.specs.Record.{kb, m, t, z, offset, rows, columns, tableSize, table, entry, headerRight, rises, sizesRight, offsetDue, offsetsRight, endsRight, shiftRight, tableRight, wellFormed}
-use Rattle.profile.specs.Staircase.{filled, filledBetween, firstColumn, nextDue, nextColumn, staircase, staircases}
+use Rattle.profile.specs.Record.{kb, m, x, kind, t, z, offset, rows, columns, tableSize, table, entry, kindRight, headerRight, rises, sizesRight, offsetDue, offsetsRight, endsRight, shiftRight, tableRight, wellFormed}
+use Rattle.profile.specs.Staircase.{filled, filledBetween, firstColumn, nextDue, nextColumn, staircase, rowEnds, extensionRow, extended, staircases}
 use Rattle.cutting.specs.Plan.{blockBits, kmax, blocks, ownBits, sizeIndexFor, sizeIndex, places, filler}
 use Rattle.cutting.specs.Promises.{planNumber}
 use Rattle.cutting.specs.Transport.{transport}
@@ -26,14 +26,17 @@ use Rattle.cutting.proofs.Plans.{plan-cut}
 use Rattle.cutting.proofs.Transported.{generator-24}
 use Rattle.parity.specs.Matrix.{square, spread, bitAt, rowEven, checks}
 use Rattle.parity.specs.Coded.{withParity, checksWith, coded}
-use Rattle.matching.specs.Matching.{kept, matched}
+use Rattle.matching.specs.Matching.{kept, matched, startOf, matchedFrom, misversioned}
+use Rattle.matching.specs.steps.Places.{keptBefore}
+use Rattle.matching.specs.steps.Line.{inLine}
 use Rattle.coding.specs.Allocation.{misallocated, symbolPlaces, spare, share}
 use Rattle.coding.specs.Blocks.{codedBlock, sendable}
 use Rattle.coding.specs.Receiving.{someWithoutRoom}
 use Rattle.coding.specs.Promises.{tooFewPlaces, sendNumber, Sent, notOctets, receiveNumber, Received}
 use Rattle.coding.specs.Joining.{blockSent, joined, radioBits}
 use Rattle.coding.specs.RoundTrip.{Roomy}
-use Rattle.coding.specs.steps.Receiving.{shareStart, ownReceived, gathered, Receivable}
+use Rattle.coding.specs.steps.Sending.{versionStart}
+use Rattle.coding.specs.steps.Receiving.{shareStart, stretch, ownReceived, gathered, Receivable}
 use Rattle.coding.specs.steps.Numbers.{cutNumber}
 use Rattle.coding.proofs.RoundTrip.{sent-front, sent-always, sent-returns, unsent-exactly}
 use Rattle.coding.proofs.Shares.{allocated}
@@ -43,9 +46,11 @@ use Rattle.shelf.specs.Lookup.{isEntry, has, entryOf, recordOf, lookupNumber, l
 use Rattle.advice.specs.Promises.{LeastRoom}
 use Rattle.advice.specs.steps.Counting.{placesFor, placesForAll}
 use Rattle.advice.proofs.Numbers.{last-done}
-use Rattle.demands.specs.Worked.{toy, p10Octets, spareOctets, toyTerms, toySent, cases}
-use Rattle.demands.proofs.Worked.{worked}
+use Rattle.demands.specs.Worked.{toy, p10Octets, spareOctets, toyTerms, sentWith, cases, typeTwo, typeTwoSent, a5With3, versions}
+use Rattle.demands.proofs.Versions.{termsOf, room-for-each}
+use Rattle.demands.proofs.Worked.{worked, worked-versions}
 use Rattle.checksum.specs.Crc as crc
+use Rattle.matching.specs.Matching as matching
 use Rattle.checksum.specs.steps.Testing as testing
 use Rattle.shelf.specs.Shelf as shelves
 
@@ -53,7 +58,24 @@ use Rattle.shelf.specs.Shelf as shelves
 
 -- the toy record with the shift 1 for 0 in the middle row of column kb: well formed, but no staircase
 unfoldable pub bent : List ℕ
-bent = set toy 15 1
+bent = set toy 19 1
+
+-- 5 "for a type other than 1 or 2, an x against these rules": type 3, and type 1 with x 1; 6 "for a bad extension": 1 for 0 in an extension row's own column
+unfoldable pub untyped : List ℕ
+untyped = set typeTwo 7 3
+
+unfoldable pub mistyped : List ℕ
+mistyped = set typeTwo 7 1
+
+unfoldable pub unextended : List ℕ
+unextended = set typeTwo 33 1
+
+-- "16, between 7 and 8, for an rv over 3 or against the type": the toy is of type 1, so rv 1 is against it; and N_L 9 besides, which 8 would refuse
+abbrev pub versioned : Terms
+versioned = termsOf 1 2 1
+
+abbrev pub unusable : Terms
+unusable = termsOf 9 2 1
 
 pub record Sending : Type 0 where
   pub profile : List ℕ
@@ -68,9 +90,17 @@ sendings =
     record { profile = toy; block = 0x01 ∷ []; terms = toyTerms; g = 128; room = 128; due = 0 }
     ∷ record { profile = toy; block = 0x01 ∷ []; terms = toyTerms; g = 130; room = 200; due = 0 }
     ∷ record { profile = toy; block = 0x01 ∷ []; terms = toyTerms; g = 126; room = 126; due = 0 }
+    ∷ record { profile = typeTwo; block = 0xA5 ∷ []; terms = termsOf 1 2 3; g = 176; room = 176; due = 0 }
     ∷ record { profile = []; block = 0x01 ∷ []; terms = toyTerms; g = 128; room = 128; due = 5 }
+    ∷ record { profile = untyped; block = 0xA5 ∷ []; terms = toyTerms; g = 176; room = 176; due = 5 }
+    ∷ record { profile = mistyped; block = 0xA5 ∷ []; terms = toyTerms; g = 176; room = 176; due = 5 }
     ∷ record { profile = bent; block = 0x01 ∷ []; terms = toyTerms; g = 128; room = 128; due = 6 }
+    ∷ record { profile = unextended; block = 0xA5 ∷ []; terms = toyTerms; g = 176; room = 176; due = 6 }
     ∷ record { profile = toy; block = []; terms = toyTerms; g = 128; room = 128; due = 7 }
+    ∷ record { profile = toy; block = []; terms = versioned; g = 128; room = 128; due = 7 }
+    ∷ record { profile = toy; block = 0x01 ∷ []; terms = versioned; g = 128; room = 128; due = 16 }
+    ∷ record { profile = toy; block = 0x01 ∷ []; terms = unusable; g = 128; room = 128; due = 16 }
+    ∷ record { profile = typeTwo; block = 0xA5 ∷ []; terms = termsOf 1 2 4; g = 176; room = 176; due = 16 }
     ∷ record { profile = toy; block = 0x01 ∷ []; terms = toyTerms; g = 129; room = 129; due = 8 }
     ∷ record { profile = toy; block = replicate 14 0; terms = toyTerms; g = 128; room = 128; due = 9 }
     ∷ record { profile = toy; block = 0x01 ∷ []; terms = toyTerms; g = 30; room = 30; due = 10 }
@@ -84,8 +114,8 @@ abbrev pub sendingDue : Sending → ℕ
 sendingDue c = c .due
 
 pub sendings-answered : map sending sendings ≡ map sendingDue sendings
-unfolding sendings bent toy sendNumber answered misallocated usable tooFewPlaces symbolPlaces placeBits symbolPlacesOf numberAt sumBelow allBelow anyBelow kb m t z offset rows columns tableSize table entry
-    headerRight rises sizesRight offsetDue offsetsRight endsRight shiftRight tableRight wellFormed filled filledBetween firstColumn nextDue nextColumn staircase staircases ceil blockBits kmax blocks
+unfolding sendings untyped mistyped unextended typeTwo bent toy sendNumber answered misversioned misallocated usable tooFewPlaces symbolPlaces placeBits symbolPlacesOf numberAt sumBelow allBelow anyBelow kb m x kind t z offset rows columns tableSize table entry
+    kindRight headerRight rises sizesRight offsetDue offsetsRight endsRight shiftRight tableRight wellFormed filled filledBetween firstColumn nextDue nextColumn staircase rowEnds extensionRow extended staircases ceil blockBits kmax blocks
 sendings-answered = refl
 
 -- ---- and receiving
@@ -103,6 +133,10 @@ receivings =
     record { profile = []; a = 8; terms = toyTerms; bits = replicate 128 0; room = 1; due = 5 }
     ∷ record { profile = bent; a = 8; terms = toyTerms; bits = replicate 128 0; room = 1; due = 6 }
     ∷ record { profile = toy; a = 9; terms = toyTerms; bits = replicate 128 0; room = 1; due = 7 }
+    ∷ record { profile = toy; a = 9; terms = versioned; bits = replicate 128 0; room = 1; due = 7 }
+    ∷ record { profile = toy; a = 8; terms = versioned; bits = replicate 128 0; room = 1; due = 16 }
+    ∷ record { profile = toy; a = 8; terms = unusable; bits = replicate 128 0; room = 1; due = 16 }
+    ∷ record { profile = typeTwo; a = 8; terms = termsOf 1 2 4; bits = replicate 176 0; room = 1; due = 16 }
     ∷ record { profile = toy; a = 8; terms = toyTerms; bits = replicate 129 0; room = 1; due = 8 }
     ∷ record { profile = toy; a = 112; terms = toyTerms; bits = replicate 128 0; room = 14; due = 9 }
     ∷ record { profile = toy; a = 8; terms = toyTerms; bits = replicate 30 0; room = 1; due = 10 }
@@ -118,15 +152,15 @@ abbrev pub receivingDue : Receiving → ℕ
 receivingDue c = c .due
 
 pub receivings-answered : map receiving receivings ≡ map receivingDue receivings
-unfolding receivings bent toy receiveNumber answered notOctets misallocated usable tooFewPlaces share spare symbolPlaces placeBits symbolPlacesOf codedBitsOf someOver someWithoutRoom sendable numberAt
-    sumBelow allBelow anyBelow firstBelow kb m t z offset rows columns tableSize table entry headerRight rises sizesRight offsetDue offsetsRight endsRight shiftRight tableRight wellFormed filled filledBetween firstColumn nextDue
-    nextColumn staircase staircases ceil blockBits kmax blocks ownBits sizeIndexFor sizeIndex places filler
+unfolding receivings typeTwo bent toy receiveNumber answered notOctets misversioned misallocated usable tooFewPlaces share spare symbolPlaces placeBits symbolPlacesOf codedBitsOf someOver someWithoutRoom sendable numberAt
+    sumBelow allBelow anyBelow firstBelow kb m x kind t z offset rows columns tableSize table entry kindRight headerRight rises sizesRight offsetDue offsetsRight endsRight shiftRight tableRight wellFormed filled filledBetween firstColumn nextDue
+    nextColumn staircase rowEnds extensionRow extended staircases ceil blockBits kmax blocks ownBits sizeIndexFor sizeIndex places filler
 receivings-answered = refl
 
 -- ---- lookup, on a shelf where tenant 1 has the toy record as number 7
 
 unfoldable pub shelf : List ℕ
-shelf = 0 ∷ 1 ∷ 0 ∷ 1 ∷ 0 ∷ 7 ∷ 0 ∷ 10 ∷ 0 ∷ 22 ∷ toy
+shelf = 0 ∷ 1 ∷ 0 ∷ 1 ∷ 0 ∷ 7 ∷ 0 ∷ 10 ∷ 0 ∷ 26 ∷ toy
 
 unfoldable pub bare : List ℕ
 bare = 0 ∷ 0 ∷ []
@@ -177,36 +211,48 @@ pub record Room (g : ℕ) : Type 0 where
   pub hosted : Roomy (lookupRecord shelf bare 1 7) 1 toyTerms g
 
 planned : planNumber toy 1 ≡ 0
-unfolding planNumber answered toy numberAt sumBelow allBelow anyBelow kb m t z offset rows columns tableSize table entry headerRight rises sizesRight offsetDue offsetsRight endsRight shiftRight tableRight
-    wellFormed filled filledBetween firstColumn nextDue nextColumn staircase staircases ceil blockBits kmax blocks
+unfolding planNumber answered toy numberAt sumBelow allBelow anyBelow kb m x kind t z offset rows columns tableSize table entry kindRight headerRight rises sizesRight offsetDue offsetsRight endsRight shiftRight tableRight
+    wellFormed filled filledBetween firstColumn nextDue nextColumn staircase rowEnds extensionRow extended staircases ceil blockBits kmax blocks
 planned = refl
 
 roomy : (g : ℕ) → Roomy toy 1 toyTerms g → Room g
 roomy g h = record { direct = h; hosted = subst (λ (R : List ℕ). Roomy R 1 toyTerms g) (sym looked-up) h }
 
 pub room-128 : Room 128
-unfolding misallocated usable tooFewPlaces someWithoutRoom sendable share spare symbolPlaces placeBits symbolPlacesOf codedBitsOf toy numberAt anyBelow firstBelow kb m t z rows columns ceil blockBits kmax blocks ownBits
+unfolding misversioned misallocated usable tooFewPlaces someWithoutRoom sendable share spare symbolPlaces placeBits symbolPlacesOf codedBitsOf toy numberAt anyBelow firstBelow kb m x kind t z rows columns ceil blockBits kmax blocks ownBits
     sizeIndexFor sizeIndex places filler
-room-128 = roomy 128 (record { taken = planned; allocation = refl; enough = refl; room = refl })
+room-128 = roomy 128 (record { taken = planned; version = refl; allocation = refl; enough = refl; room = refl })
 
 pub room-130 : Room 130
-unfolding misallocated usable tooFewPlaces someWithoutRoom sendable share spare symbolPlaces placeBits symbolPlacesOf codedBitsOf toy numberAt anyBelow firstBelow kb m t z rows columns ceil blockBits kmax blocks ownBits
+unfolding misversioned misallocated usable tooFewPlaces someWithoutRoom sendable share spare symbolPlaces placeBits symbolPlacesOf codedBitsOf toy numberAt anyBelow firstBelow kb m x kind t z rows columns ceil blockBits kmax blocks ownBits
     sizeIndexFor sizeIndex places filler
-room-130 = roomy 130 (record { taken = planned; allocation = refl; enough = refl; room = refl })
+room-130 = roomy 130 (record { taken = planned; version = refl; allocation = refl; enough = refl; room = refl })
 
 pub room-256 : Room 256
-unfolding misallocated usable tooFewPlaces someWithoutRoom sendable share spare symbolPlaces placeBits symbolPlacesOf codedBitsOf toy numberAt anyBelow firstBelow kb m t z rows columns ceil blockBits kmax blocks ownBits
+unfolding misversioned misallocated usable tooFewPlaces someWithoutRoom sendable share spare symbolPlaces placeBits symbolPlacesOf codedBitsOf toy numberAt anyBelow firstBelow kb m x kind t z rows columns ceil blockBits kmax blocks ownBits
     sizeIndexFor sizeIndex places filler
-room-256 = roomy 256 (record { taken = planned; allocation = refl; enough = refl; room = refl })
+room-256 = roomy 256 (record { taken = planned; version = refl; allocation = refl; enough = refl; room = refl })
 
--- ---- a reception that is accepted: the 128 bits of P10
+-- and for each rv of type 2: octet A5 with G 176
+planned-two : planNumber typeTwo 1 ≡ 0
+unfolding planNumber answered typeTwo numberAt sumBelow allBelow anyBelow kb m x kind t z offset rows columns tableSize table entry kindRight headerRight rises sizesRight offsetDue offsetsRight endsRight shiftRight tableRight
+    wellFormed filled filledBetween firstColumn nextDue nextColumn staircase rowEnds extensionRow extended staircases ceil blockBits kmax blocks
+planned-two = refl
+
+pub room-two : (rv : ℕ) → rv ≤ 3 → Roomy typeTwo 1 (termsOf 1 2 rv) 176
+unfolding misversioned misallocated usable tooFewPlaces someWithoutRoom sendable share spare symbolPlaces placeBits symbolPlacesOf codedBitsOf typeTwo numberAt anyBelow firstBelow kb m x kind t z rows columns ceil blockBits
+    kmax blocks ownBits sizeIndexFor sizeIndex places filler
+room-two rv low =
+    room-for-each refl (record { taken = planned-two; version = refl; allocation = refl; enough = refl; room = refl }) rv low
+
+-- ---- receptions that are accepted: the 128 bits of P10
 
 sent-128 : radioBits toy (blockBits 1) (transport (0x01 ∷ [])) toyTerms 128 ≡ unpacked p10Octets
-unfolding cases toySent listBelow blocks ceil kmax kb t z toy numberAt blockBits
+unfolding cases sentWith listBelow blocks ceil kmax kb t z toy numberAt blockBits
 sent-128 = ap (λ (l : List (List ℕ)). drop 18 (getD l 9 [])) worked
 
 sent-130 : radioBits toy (blockBits 1) (transport (0x01 ∷ [])) toyTerms 130 ≡ take 130 (unpacked spareOctets)
-unfolding cases toySent listBelow blocks ceil kmax kb t z toy numberAt blockBits
+unfolding cases sentWith listBelow blocks ceil kmax kb t z toy numberAt blockBits
 sent-130 = ap (λ (l : List (List ℕ)). drop 18 (getD l 10 [])) worked
 
 -- a call of `send` that keeps its promise
@@ -218,25 +264,36 @@ sent-so : (R block : List ℕ) (terms : Terms) (g : ℕ) (out : List ℕ)
     (whenDone (sendNumber R block terms g (length out)) (radioBits R (blockBits (length block)) (transport block) terms g ++ drop g out) out)
 sent-so R block terms g out = record { number = refl; count = refl; output = refl }
 
-one-octet : AreOctets (0x01 ∷ [])
-one-octet zero = lit< tt
-one-octet (suc k) = lit< tt
+-- "receiving the sent bits returns the block", and the octets behind it stay as they were
+returned : (R block : List ℕ) (terms : Terms) (g : ℕ) (bits buf : List ℕ) → Roomy R (length block) terms g → AreOctets block → length block ≤ length buf
+    → radioBits R (blockBits (length block)) (transport block) terms g ≡ bits → {r : Written} {buf' : List ℕ} → Received R (8 * length block) terms bits buf r buf'
+    → (r .number ≡ 0) × (r .count ≡ length block) × (buf' ≡ block ++ drop (length block) buf)
+returned R block terms g bits buf h whole fits e {r} {buf'} v =
+    let out : List ℕ = replicate g 0 in
+    let s = sent-so R block terms g out in
+    let room : g ≤ length out = omega (arith, length-replicate {A = ℕ} g 0) in
+    let is = sent-front s (sent-always block h room s .0) ∙ e in
+    let got = sent-returns h whole fits room s (subst (λ (l : List ℕ). Received R (8 * length block) terms l buf r buf') (sym is) v) in
+    (got .0, got .1, got .3)
 
-done-128 : sendNumber toy (0x01 ∷ []) toyTerms 128 (length (replicate {A = ℕ} 128 0)) ≡ 0
-unfolding sendings
-done-128 = ap (λ (l : List ℕ). getD l 0 0) sendings-answered
+one-octet : (n : ℕ) → n < 256 → AreOctets (n ∷ [])
+one-octet n low zero = low
+one-octet n low (suc k) = lit< tt
 
--- "receiving the sent bits returns the block", and the octet behind it stays as it was
 pub accepted : {r : Written} {buf' : List ℕ} → Received toy 8 toyTerms (unpacked p10Octets) (0x55 ∷ 0xAA ∷ []) r buf'
     → (r .number ≡ 0) × (r .count ≡ 1) × (buf' ≡ 0x01 ∷ 0xAA ∷ [])
-unfolding p10Octets
-accepted {r} {buf'} v =
-    let s = sent-so toy (0x01 ∷ []) toyTerms 128 (replicate 128 0) in
-    let o : List ℕ = whenDone (sendNumber toy (0x01 ∷ []) toyTerms 128 128) (radioBits toy (blockBits 1) (transport (0x01 ∷ [])) toyTerms 128 ++ drop 128 (replicate 128 0)) (replicate 128 0) in
-    let is : take 128 o ≡ unpacked p10Octets = sent-front s done-128 ∙ sent-128 in
-    let got = sent-returns (room-128 .direct) one-octet (lit≤ tt) (lit≤ tt) s
-    (subst (λ (l : List ℕ). Received toy 8 toyTerms l (0x55 ∷ 0xAA ∷ []) r buf') (sym is) v) in
-    (got .0, got .1, got .3)
+accepted v =
+    returned toy (0x01 ∷ []) toyTerms 128 (unpacked p10Octets) (0x55 ∷ 0xAA ∷ []) (room-128 .direct) (one-octet 0x01 (lit< tt)) (lit≤ tt) sent-128 v
+
+-- and with type 2: what A5 is sent as with rv 3
+sent-two : radioBits typeTwo (blockBits 1) (transport (0xA5 ∷ [])) (termsOf 1 2 3) 176 ≡ unpacked a5With3
+unfolding versions typeTwoSent sentWith listBelow blocks ceil kmax kb t z typeTwo numberAt blockBits
+sent-two = ap (λ (l : List (List ℕ)). drop 13 (getD l 8 [])) worked-versions
+
+pub accepted-two : {r : Written} {buf' : List ℕ} → Received typeTwo 8 (termsOf 1 2 3) (unpacked a5With3) (0x55 ∷ 0xAA ∷ []) r buf'
+    → (r .number ≡ 0) × (r .count ≡ 1) × (buf' ≡ 0xA5 ∷ 0xAA ∷ [])
+accepted-two v =
+    returned typeTwo (0xA5 ∷ []) (termsOf 1 2 3) 176 (unpacked a5With3) (0x55 ∷ 0xAA ∷ []) (room-two 3 (lit≤ tt)) (one-octet 0xA5 (lit< tt)) (lit≤ tt) sent-two v
 
 -- the same for tenant 1, who has the toy record as number 7
 pub hosted-accepted : {r : Written} {buf' : List ℕ} → HostedReceived shelf bare 1 7 8 toyTerms (unpacked p10Octets) (0x55 ∷ 0xAA ∷ []) r buf'
@@ -253,6 +310,7 @@ module _ (bits : List ℕ) (h : Roomy toy 1 toyTerms (length bits)) (none : some
   receivable =
       record {
         taken = h .taken;
+        version = h .version;
         allocated = allocated toyTerms (length bits) (blocks toy (blockBits 1)) (h .allocation) (plan-cut toy 1 (h .taken) .some);
         single = over-none-bits bits none;
         room = h .room;
@@ -274,8 +332,8 @@ unfoldable pub ones : List ℕ
 ones = replicate 128 1
 
 ones-gathered : testing.checks 24 crc.gen24A (gathered toy (blockBits 1) toyTerms ones) ≡ false
-unfolding ones toy gathered ownReceived shareStart joined share spare symbolPlaces placeBits symbolPlacesOf codedBitsOf numberAt digits readOn valueOf sumBelow firstBelow anyBelow reduce divideOn remainder
-    checksum attached kb m t z rows columns ceil blockBits kmax blocks ownBits testing.checks
+unfolding ones toy gathered ownReceived stretch inLine keptBefore matching.turned versionStart startOf shareStart joined share spare symbolPlaces placeBits symbolPlacesOf codedBitsOf numberAt digits readOn valueOf sumBelow firstBelow anyBelow reduce divideOn remainder
+    checksum attached kb m x kind t z rows columns ceil blockBits kmax blocks ownBits sizeIndexFor sizeIndex places testing.checks
 ones-gathered = refl
 
 pub ones-refused : {buf : List ℕ} {r : Written} {buf' : List ℕ} → 1 ≤ length buf → Received toy 8 toyTerms ones buf r buf' → r .number ≡ 14
@@ -304,13 +362,13 @@ unfoldable pub spared : List ℕ
 spared = set (take 130 (unpacked spareOctets)) 9 1
 
 turned-gathered : gathered toy (blockBits 1) toyTerms turned ≡ transport (0x01 ∷ [])
-unfolding turned p10Octets toy gathered ownReceived shareStart joined share spare symbolPlaces placeBits symbolPlacesOf codedBitsOf numberAt digits unpacked readOn valueOf sumBelow firstBelow anyBelow reduce divideOn
-    remainder checksum attached transport kb m t z rows columns ceil blockBits kmax blocks ownBits
+unfolding turned p10Octets toy gathered ownReceived stretch inLine keptBefore matching.turned versionStart startOf shareStart joined share spare symbolPlaces placeBits symbolPlacesOf codedBitsOf numberAt digits unpacked readOn valueOf sumBelow firstBelow anyBelow reduce divideOn
+    remainder checksum attached transport kb m x kind t z rows columns ceil blockBits kmax blocks ownBits sizeIndexFor sizeIndex places
 turned-gathered = refl
 
 spared-gathered : gathered toy (blockBits 1) toyTerms spared ≡ transport (0x01 ∷ [])
-unfolding spared spareOctets toy gathered ownReceived shareStart joined share spare symbolPlaces placeBits symbolPlacesOf codedBitsOf numberAt digits unpacked readOn valueOf sumBelow firstBelow anyBelow reduce divideOn
-    remainder checksum attached transport kb m t z rows columns ceil blockBits kmax blocks ownBits
+unfolding spared spareOctets toy gathered ownReceived stretch inLine keptBefore matching.turned versionStart startOf shareStart joined share spare symbolPlaces placeBits symbolPlacesOf codedBitsOf numberAt digits unpacked readOn valueOf sumBelow firstBelow anyBelow reduce divideOn
+    remainder checksum attached transport kb m x kind t z rows columns ceil blockBits kmax blocks ownBits sizeIndexFor sizeIndex places
 spared-gathered = refl
 
 pub turned-refused : {buf : List ℕ} {r : Written} {buf' : List ℕ} → 1 ≤ length buf → Received toy 8 toyTerms turned buf r buf' → r .number ≡ 14
@@ -334,14 +392,14 @@ unfoldable pub copied : List ℕ
 copied = set (unpacked (doubled p10Octets)) 255 1
 
 sent-256 : radioBits toy (blockBits 1) (transport (0x01 ∷ [])) toyTerms 256 ≡ unpacked (doubled p10Octets)
-unfolding doubled toy p10Octets digits readOn valueOf unpacked numberAt placeBits symbolPlacesOf codedBitsOf sumBelow parityBelow allBelow anyBelow firstBelow reduce divideOn remainder checksum attached blockBits kb m t z
+unfolding doubled toy p10Octets digits readOn valueOf unpacked numberAt placeBits symbolPlacesOf codedBitsOf sumBelow parityBelow allBelow anyBelow firstBelow reduce divideOn remainder checksum attached blockBits kb m x kind t z
     offset rows columns tableSize table entry ceil kmax blocks ownBits sizeIndexFor sizeIndex places filler square spread bitAt rowEven checks withParity checksWith coded transport ownStart own
-    withFiller systematic codedBlock symbolPlaces spare share kept listBelow matched blockSent joined radioBits
+    withFiller systematic codedBlock symbolPlaces spare share kept listBelow matched matching.turned startOf matchedFrom blockSent joined radioBits
 sent-256 = refl
 
 copied-gathered : gathered toy (blockBits 1) toyTerms copied ≡ transport (0x01 ∷ [])
-unfolding doubled copied p10Octets toy gathered ownReceived shareStart joined share spare symbolPlaces placeBits symbolPlacesOf codedBitsOf numberAt digits unpacked readOn valueOf sumBelow firstBelow anyBelow reduce
-    divideOn remainder checksum attached transport kb m t z rows columns ceil blockBits kmax blocks ownBits
+unfolding doubled copied p10Octets toy gathered ownReceived stretch inLine keptBefore matching.turned versionStart startOf shareStart joined share spare symbolPlaces placeBits symbolPlacesOf codedBitsOf numberAt digits unpacked readOn valueOf sumBelow firstBelow anyBelow reduce
+    divideOn remainder checksum attached transport kb m x kind t z rows columns ceil blockBits kmax blocks ownBits sizeIndexFor sizeIndex places
 copied-gathered = refl
 
 pub copied-refused : {buf : List ℕ} {r : Written} {buf' : List ℕ} → 1 ≤ length buf → Received toy 8 toyTerms copied buf r buf' → r .number ≡ 14
@@ -352,13 +410,13 @@ copied-refused fits v =
 
 -- ---- the least G of one octet
 
--- kb 2, m 3 and one z of 3
+-- kb 2, m 3, x 0, type 1 and one z of 3
 unfoldable pub uneven : List ℕ
 uneven =
-    0x00 ∷ 0x02 ∷ 0x00 ∷ 0x03 ∷ 0x00 ∷ 0x01 ∷ 0x00 ∷ 0x03 ∷ 0x00 ∷ 0x0A
+    0x00 ∷ 0x02 ∷ 0x00 ∷ 0x03 ∷ 0x00 ∷ 0x00 ∷ 0x00 ∷ 0x01 ∷ 0x00 ∷ 0x01 ∷ 0x00 ∷ 0x03 ∷ 0x00 ∷ 0x0E
     ∷ 0x01 ∷ 0xFF ∷ 0x01 ∷ 0x00 ∷ 0xFF ∷ 0x02 ∷ 0x00 ∷ 0x00 ∷ 0x00 ∷ 0x00 ∷ 0xFF ∷ 0x01 ∷ 0x01 ∷ 0xFF ∷ 0x00 ∷ []
 
--- what is counted for it: a record that none of 5 to 9 refuses, C, and the symbol places that its blocks take
+-- what is counted for it: a record that none of 5 to 9 and 16 refuses, C, and the symbol places that its blocks take
 record Counted (R : List ℕ) (c n : ℕ) : Type 0 where
   cut : cutNumber R 1 toyTerms 0 ≡ 0
   count : blocks R (blockBits 1) ≡ c
@@ -366,9 +424,9 @@ record Counted (R : List ℕ) (c n : ℕ) : Type 0 where
 
 -- to unfold this is to unfold all that is counted with
 counting : ℕ → ℕ
-unfolding toy uneven cutNumber answered placesForAll placesFor sendable numberAt sumBelow allBelow anyBelow firstBelow kb m t z offset rows columns tableSize table entry headerRight rises sizesRight
-    offsetDue offsetsRight endsRight shiftRight tableRight wellFormed filled filledBetween firstColumn nextDue nextColumn staircase staircases ceil blockBits kmax blocks ownBits sizeIndexFor
-    sizeIndex places filler misallocated usable placeBits
+unfolding toy uneven cutNumber answered placesForAll placesFor sendable numberAt sumBelow allBelow anyBelow firstBelow kb m x kind t z offset rows columns tableSize table entry kindRight headerRight rises sizesRight
+    offsetDue offsetsRight endsRight shiftRight tableRight wellFormed filled filledBetween firstColumn nextDue nextColumn staircase rowEnds extensionRow extended staircases ceil blockBits kmax blocks ownBits sizeIndexFor
+    sizeIndex places filler misversioned misallocated usable placeBits
 counting n = n
 
 toy-counted : Counted toy 16 64

@@ -13,8 +13,9 @@ use Rattle.bits.specs.declared.count.Terms.{Terms}
 use Rattle.bits.proofs.Answers.{passes, none-left, first-part, Refusals, last-part}
 use Rattle.bits.proofs.Ranges.{any-none, equal-or, neither}
 use Rattle.profile.specs.Record.{kb, z, rows, columns, table}
-use Rattle.profile.specs.Staircase.{staircase}
+use Rattle.profile.specs.Staircase.{staircase, extended}
 use Rattle.profile.specs.Promises.{judged}
+use Rattle.profile.proofs.Extension.{extended-is}
 use Rattle.profile.proofs.Stairs.{staircase-is}
 use Rattle.cutting.specs.Plan.{blockBits, blocks, sizeIndex}
 use Rattle.cutting.specs.Promises.{planNumber}
@@ -33,11 +34,17 @@ use Rattle.demands.proofs.Steps.{sys-size, stairs}
 
 -- ---- "With accepted profiles the staircase gives parity bits that always check"
 
--- for every table that 6 accepts, every z and all places: bits, and marks anywhere
-pub parity-exists : (T : List ℕ) (kb m z : ℕ) (places : List ℕ) → staircase T kb m (kb + m) ≡ true → length places ≡ kb * z
-    → hasParity T m (kb + m) z places ≡ true
-parity-exists T kb m z places accepted long =
-    has-parity T m (kb + m) z places kb long (record { tall = refl; wide = refl; stairs = staircase-is T kb m (kb + m) accepted })
+-- for every table that 6 accepts, extension and all, every z and all places: bits, and marks anywhere
+pub parity-exists : (T : List ℕ) (kb m x z : ℕ) (places : List ℕ) → staircase T kb m (kb + (m + x)) ≡ true → extended T kb m x (kb + (m + x)) ≡ true
+    → length places ≡ kb * z → hasParity T (m + x) (kb + (m + x)) z places ≡ true
+parity-exists T kb m x z places accepted accepted' long =
+    has-parity T (m + x) (kb + (m + x)) z places kb long
+    (record {
+      tall = omega arith;
+      wide = refl;
+      stairs = staircase-is T kb m (kb + (m + x)) accepted;
+      extension = extended-is T kb m x (kb + (m + x)) accepted';
+    })
 
 -- so for those of an accepted profile
 pub parity-always : (R : List ℕ) (z' : ℕ) (places : List ℕ) → judged R ≡ 0 → hasSize R z' ≡ true → length places ≡ kb R * z'

@@ -8,6 +8,7 @@ pub mod Demand1
 pub mod Rising
 pub mod Demand2
 pub mod Demand3
+pub mod Versions
 pub mod Worked
 pub mod Fifteen
 pub mod Masked

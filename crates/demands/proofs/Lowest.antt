@@ -1,56 +1,78 @@
--- In a list whose numbers rise what comes before is what is below, so the lowest number that applies is answered.
-use mathlib.Core.Path.{_≡_}
+-- In a list whose numbers rise by rank what comes before is what is below, so the lowest number that applies is answered.
+use mathlib.Core.Path.{_≡_, ap}
 use mathlib.Core.Bool.{Bool, true, _&&_}
 use mathlib.Core.List.{List, [], _∷_}
 use mathlib.Core.Logic.{inl, inr}
-use Prim.Native.Nat.{ℕ, _≤_, _<_}
+use Prim.Native.Nat.{ℕ, _*_, _≤_, _<_}
 use native.Mathlib.Omega.{arith}
-use borrow.Author.Tests.{ltb-true}
-use lib.Dec.{ltb}
+use borrow.Author.Tests.{ltb-true, ne-eqb}
+use lib.Dec.{ltb, lit<}
 use Rattle.bits.proofs.Ranges.{both}
-use Rattle.demands.specs.Numbers.{First, Answers, Applies, NoneBelow, Lowest}
+use Rattle.demands.specs.Numbers.{rank, First, Answers, Applies, NoneBelow, Lowest}
 
--- the numbers strictly rise, and are all above b
+-- ---- the ranks
+
+ranked : (n : ℕ) → (n ≡ 16 → ⊥) → rank n ≡ 2 * n
+unfolding rank
+ranked n other = rw (ne-eqb n 16 other)
+
+-- all numbers but 16 keep their order, those of document 01 among them
+module _ (a b : ℕ) (other : a ≡ 16 → ⊥) (other' : b ≡ 16 → ⊥) where
+  pub ranks-rise : a < b → rank a < rank b
+  ranks-rise h = omega (arith, ranked a other, ranked b other')
+
+  pub ranks-only : rank a < rank b → a < b
+  ranks-only h = omega (arith, ranked a other, ranked b other')
+
+-- "16, between 7 and 8"
+pub between : (rank 7 < rank 16) × (rank 16 < rank 8)
+unfolding rank
+between = (lit< tt, lit< tt)
+
+-- ---- lists
+
+-- the ranks strictly rise, and are all above b
 unfoldable pub rising : ℕ → List (ℕ × Bool) → Bool
 rising b [] = true
-rising b ((k, c) ∷ l) = ltb b k && rising k l
+rising b ((k, c) ∷ l) = ltb b (rank k) && rising (rank k) l
 
 -- a number that applies is above those that the list rises from
-applies-above : (l : List (ℕ × Bool)) (b n : ℕ) → rising b l ≡ true → Applies n l → b < n
+applies-above : (l : List (ℕ × Bool)) (b n : ℕ) → rising b l ≡ true → Applies n l → b < rank n
 unfolding rising Applies
 applies-above [] b n up h = absurd h
-applies-above ((k, c) ∷ l) b n up (inl h) = omega (arith, ltb-true b k (both (ltb b k) (rising k l) up .0), h .0)
+applies-above ((k, c) ∷ l) b n up (inl h) = omega (arith, ltb-true b (rank k) (both (ltb b (rank k)) (rising (rank k) l) up .0), ap rank (h .0))
 applies-above ((k, c) ∷ l) b n up (inr h) =
-    let parts = both (ltb b k) (rising k l) up in
-    omega (arith, ltb-true b k (parts .0), applies-above l k n (parts .1) h)
+    let parts = both (ltb b (rank k)) (rising (rank k) l) up in
+    omega (arith, ltb-true b (rank k) (parts .0), applies-above l (rank k) n (parts .1) h)
 
 -- and nothing is below what it rises from
-none-below : (l : List (ℕ × Bool)) (b n : ℕ) → n ≤ b → rising b l ≡ true → NoneBelow n l
+none-below : (l : List (ℕ × Bool)) (b n : ℕ) → rank n ≤ b → rising b l ≡ true → NoneBelow n l
 unfolding rising NoneBelow
 none-below [] b n h up = tt
 none-below ((k, c) ∷ l) b n h up =
-    let parts = both (ltb b k) (rising k l) up in
-    let over = ltb-true b k (parts .0) in
-    (λ (q : k < n). absurd (omega arith), none-below l k n (omega arith) (parts .1))
+    let parts = both (ltb b (rank k)) (rising (rank k) l) up in
+    let over = ltb-true b (rank k) (parts .0) in
+    (λ (q : rank k < rank n). absurd (omega arith), none-below l (rank k) n (omega arith) (parts .1))
 
 lowest-is : (l : List (ℕ × Bool)) (b n : ℕ) → rising b l ≡ true → First n l → (Applies n l) × (NoneBelow n l)
 unfolding rising First Applies NoneBelow
 lowest-is [] b n up h = absurd h
 lowest-is ((k, c) ∷ l) b n up (inl h) =
-    let parts = both (ltb b k) (rising k l) up in
-    (inl h, (λ (q : k < n). absurd (omega (arith, h .0)), none-below l k n (omega (arith, h .0)) (parts .1)))
+    let parts = both (ltb b (rank k)) (rising (rank k) l) up in
+    let same = ap rank (h .0) in
+    (inl h, (λ (q : rank k < rank n). absurd (omega arith), none-below l (rank k) n (omega arith) (parts .1)))
 lowest-is ((k, c) ∷ l) b n up (inr h) =
-    let parts = both (ltb b k) (rising k l) up in
-    let rest = lowest-is l k n (parts .1) (h .1) in
-    (inr (rest .0), (λ (q : k < n). h .0, rest .1))
+    let parts = both (ltb b (rank k)) (rising (rank k) l) up in
+    let rest = lowest-is l (rank k) n (parts .1) (h .1) in
+    (inr (rest .0), (λ (q : rank k < rank n). h .0, rest .1))
 
 is-lowest : (l : List (ℕ × Bool)) (b n : ℕ) → rising b l ≡ true → Applies n l → NoneBelow n l → First n l
 unfolding rising First Applies NoneBelow
 is-lowest [] b n up h low = absurd h
 is-lowest ((k, c) ∷ l) b n up (inl h) low = inl h
 is-lowest ((k, c) ∷ l) b n up (inr h) low =
-    let parts = both (ltb b k) (rising k l) up in
-    inr (low .0 (applies-above l k n (parts .1) h), is-lowest l k n (parts .1) h (low .1))
+    let parts = both (ltb b (rank k)) (rising (rank k) l) up in
+    inr (low .0 (applies-above l (rank k) n (parts .1) h), is-lowest l (rank k) n (parts .1) h (low .1))
 
 pub lowest : (l : List (ℕ × Bool)) → rising 0 l ≡ true → {number : ℕ} → Answers number l → Lowest number l
 lowest l up a =

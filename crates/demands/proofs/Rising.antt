@@ -1,5 +1,5 @@
--- "The lowest number that applies is answered", by every call of document 01 and those of CR 9 and CR 4: their lists rise, so the first number whose condition holds
--- is the lowest.
+-- "The lowest number that applies is answered", by every call of document 01 and those of CR 9 and CR 4, 16 standing "between 7 and 8" as CR 3 has it: their
+-- lists rise by rank, so the first number whose condition holds is the lowest.
 use mathlib.Core.Path.{_≡_, refl}
 use mathlib.Core.List.{List, _++_}
 use Prim.Native.Nat.{ℕ}
@@ -20,91 +20,91 @@ use Rattle.matching.specs.Promises.{matchConditions, RateMatched}
 use Rattle.coding.specs.Promises.{sendConditions, Sent, receiveConditions, Received}
 use Rattle.shelf.specs.Lookup.{lookupConditions, lookupNumber, lookupRecord}
 use Rattle.shelf.specs.Promises.{HostedSent, HostedReceived, HostedChecked}
-use Rattle.demands.specs.Numbers.{Lowest}
+use Rattle.demands.specs.Numbers.{rank, Lowest}
 use Rattle.demands.proofs.Lowest.{rising, lowest}
 use Rattle.demands.proofs.Demand1.{of-bits-number, of-octets-number, sum-under-number, append-number, test-number, judge-number, plan-block-number, code-block-number, check-word-number, row-sums-number, rate-match-number, send-number, receive-number, lookup-number-number, hosted-send-number, hosted-receive-number, hosted-check-number}
 
 pub of-bits-lowest : {w : ℕ} {bits : List ℕ} {r : Sum} → OfBits w bits r
     → Lowest (r .number) (bitsConditions w bits)
-unfolding rising
+unfolding rising rank
 of-bits-lowest {w} {bits} a = lowest (bitsConditions w bits) refl (of-bits-number a)
 
 pub of-octets-lowest : {w : ℕ} {octets : List ℕ} {r : Sum} → OfOctets w octets r
     → Lowest (r .number) (octetsConditions w)
-unfolding rising
+unfolding rising rank
 of-octets-lowest {w} a = lowest (octetsConditions w) refl (of-octets-number a)
 
 pub sum-under-lowest : {w m : ℕ} {bits : List ℕ} {r : Sum} → SumUnder w m bits r
     → Lowest (r .number) (bitsConditions w bits)
-unfolding rising
+unfolding rising rank
 sum-under-lowest {w} {m} {bits} a = lowest (bitsConditions w bits) refl (sum-under-number a)
 
 pub append-lowest : {w m : ℕ} {bits out : List ℕ} {r : Written} {o : List ℕ} → Appended w m bits out r o
     → Lowest (r .number) (appendConditions w bits (length out))
-unfolding rising
+unfolding rising rank
 append-lowest {w} {m} {bits} {out} a = lowest (appendConditions w bits (length out)) refl (append-number a)
 
 pub test-lowest : {w m : ℕ} {word : List ℕ} {r : Tested} → WordTested w m word r
     → Lowest (r .number) (bitsConditions w word)
-unfolding rising
+unfolding rising rank
 test-lowest {w} {m} {word} a = lowest (bitsConditions w word) refl (test-number a)
 
 pub judge-lowest : (R : List ℕ) {r : ℕ} → r ≡ judged R
     → Lowest r (judgeConditions R)
-unfolding rising
+unfolding rising rank
 judge-lowest R a = lowest (judgeConditions R) refl (judge-number R a)
 
 pub plan-block-lowest : (R : List ℕ) (octets : ℕ) {r : Plan} → r ≡ planned R octets
     → Lowest (r .number) (planConditions R octets)
-unfolding rising
+unfolding rising rank
 plan-block-lowest R octets a = lowest (planConditions R octets) refl (plan-block-number R octets a)
 
 pub code-block-lowest : {R : List ℕ} {z : ℕ} {places out : List ℕ} {r : Written} {o : List ℕ} → BlockCoded R z places out r o
     → Lowest (r .number) (codeConditions R z places (length out))
-unfolding rising
+unfolding rising rank
 code-block-lowest {R} {z} {places} {out} a = lowest (codeConditions R z places (length out)) refl (code-block-number a)
 
 pub check-word-lowest : {R : List ℕ} {z : ℕ} {word : List ℕ} {r : Verdict} → WordChecked R z word r
     → Lowest (r .number) (checkConditions R z word)
-unfolding rising
+unfolding rising rank
 check-word-lowest {R} {z} {word} a = lowest (checkConditions R z word) refl (check-word-number a)
 
 pub row-sums-lowest : {R : List ℕ} {z : ℕ} {word out : List ℕ} {r : Written} {o : List ℕ} → RowsSummed R z word out r o
     → Lowest (r .number) (sumsConditions R z word (length out))
-unfolding rising
+unfolding rising rank
 row-sums-lowest {R} {z} {word} {out} a = lowest (sumsConditions R z word (length out)) refl (row-sums-number a)
 
-pub rate-match-lowest : {places : List ℕ} {e : ℕ} {out : List ℕ} {r : Written} {o : List ℕ} → RateMatched places e out r o
-    → Lowest (r .number) (matchConditions places e (length out))
-unfolding rising
-rate-match-lowest {places} {e} {out} a = lowest (matchConditions places e (length out)) refl (rate-match-number a)
+pub rate-match-lowest : {places : List ℕ} {kind rv e : ℕ} {out : List ℕ} {r : Written} {o : List ℕ} → RateMatched places kind rv e out r o
+    → Lowest (r .number) (matchConditions places kind rv e (length out))
+unfolding rising rank
+rate-match-lowest {places} {kind} {rv} {e} {out} a = lowest (matchConditions places kind rv e (length out)) refl (rate-match-number a)
 
 pub send-lowest : {R block : List ℕ} {terms : Terms} {g : ℕ} {out : List ℕ} {r : Written} {o : List ℕ} → Sent R block terms g out r o
     → Lowest (r .number) (sendConditions R block terms g (length out))
-unfolding rising
+unfolding rising rank
 send-lowest {R} {block} {terms} {g} {out} a = lowest (sendConditions R block terms g (length out)) refl (send-number a)
 
 pub receive-lowest : {R : List ℕ} {a : ℕ} {terms : Terms} {bits out : List ℕ} {r : Written} {o : List ℕ} → Received R a terms bits out r o
     → Lowest (r .number) (receiveConditions R a terms bits (length out))
-unfolding rising
+unfolding rising rank
 receive-lowest {R} {a} {terms} {bits} {out} h = lowest (receiveConditions R a terms bits (length out)) refl (receive-number h)
 
 pub lookup-number-lowest : (private public : List ℕ) (t p : ℕ) {r : ℕ} → r ≡ lookupNumber private public t p
     → Lowest r (lookupConditions private public t p)
-unfolding rising
+unfolding rising rank
 lookup-number-lowest private public t p a = lowest (lookupConditions private public t p) refl (lookup-number-number private public t p a)
 
 pub hosted-send-lowest : {private public : List ℕ} {t p : ℕ} {block : List ℕ} {terms : Terms} {g : ℕ} {out : List ℕ} {r : Written} {o : List ℕ} → HostedSent private public t p block terms g out r o
     → Lowest (r .number) (lookupConditions private public t p ++ sendConditions (lookupRecord private public t p) block terms g (length out))
-unfolding rising
+unfolding rising rank
 hosted-send-lowest {private} {public} {t} {p} {block} {terms} {g} {out} h = lowest (lookupConditions private public t p ++ sendConditions (lookupRecord private public t p) block terms g (length out)) refl (hosted-send-number h)
 
 pub hosted-receive-lowest : {private public : List ℕ} {t p a : ℕ} {terms : Terms} {bits out : List ℕ} {r : Written} {o : List ℕ} → HostedReceived private public t p a terms bits out r o
     → Lowest (r .number) (lookupConditions private public t p ++ receiveConditions (lookupRecord private public t p) a terms bits (length out))
-unfolding rising
+unfolding rising rank
 hosted-receive-lowest {private} {public} {t} {p} {a} {terms} {bits} {out} h = lowest (lookupConditions private public t p ++ receiveConditions (lookupRecord private public t p) a terms bits (length out)) refl (hosted-receive-number h)
 
 pub hosted-check-lowest : {private public : List ℕ} {t p z : ℕ} {word : List ℕ} {r : Verdict} → HostedChecked private public t p z word r
     → Lowest (r .number) (lookupConditions private public t p ++ checkConditions (lookupRecord private public t p) z word)
-unfolding rising
+unfolding rising rank
 hosted-check-lowest {private} {public} {t} {p} {z} {word} h = lowest (lookupConditions private public t p ++ checkConditions (lookupRecord private public t p) z word) refl (hosted-check-number h)

@@ -1,9 +1,11 @@
 -- What a transport block is sent as follows the six steps of document 01, and no other bits do.
 use mathlib.Core.Path.{_≡_, refl, sym, ap, ap₂, _∙_, subst}
+use mathlib.Core.Bool.{cond}
 use mathlib.Core.List.{List}
-use Prim.Native.Nat.{ℕ, suc, _-_, _*_, _%_, _≤_, _<_}
+use Prim.Native.Nat.{ℕ, suc, _-_, _*_, _/_, _≤_, _<_}
 use native.Mathlib.Nat.{add-mul}
 use native.Mathlib.Omega.{arith}
+use lib.Dec.{eqb}
 use lib.ListN.{length, getD, take, drop, replicate, length-append, length-replicate}
 use lib.Seq.{take-all}
 use Rattle.bits.specs.Counts.{symbolPlacesOf, codedBitsOf}
@@ -11,10 +13,9 @@ use Rattle.bits.specs.Ranges.{sumBelow}
 use Rattle.bits.specs.Bits.{withFiller}
 use Rattle.bits.specs.declared.count.Terms.{Terms}
 use Rattle.bits.proofs.Lists.{length-part}
-use Rattle.bits.proofs.Listed.{length-list}
 use Rattle.bits.proofs.Sums.{sum-same, sum-mono}
 use Rattle.checksum.specs.Crc.{attached}
-use Rattle.profile.specs.Record.{kb, m, rows, columns, z, table}
+use Rattle.profile.specs.Record.{kb, m, kind, rows, columns, z, table}
 use Rattle.profile.proofs.Shape.{columns-is}
 use Rattle.cutting.specs.Plan.{blockBits, blocks, ownBits, sizeIndex, places}
 use Rattle.cutting.specs.Promises.{planNumber}
@@ -26,8 +27,9 @@ use Rattle.parity.specs.Matrix.{checks}
 use Rattle.parity.specs.Coded.{coded}
 use Rattle.parity.proofs.Coded.{coded-length, coded-take, coded-bits, coded-checks, coded-unique}
 use Rattle.parity.proofs.Ready.{table-stairs}
-use Rattle.parity.proofs.Solve.{Solvable}
-use Rattle.matching.specs.Matching.{kept, matched}
+use Rattle.parity.proofs.Rows.{Solvable}
+use Rattle.matching.specs.Matching.{matched, turned, startOf, matchedFrom}
+use Rattle.matching.proofs.Heard.{matched-length}
 use Rattle.coding.specs.Blocks.{codedBlock}
 use Rattle.coding.specs.Allocation.{symbolPlaces, spare, share}
 use Rattle.coding.specs.Joining.{blockSent, joined, radioBits}
@@ -35,7 +37,7 @@ use Rattle.coding.specs.steps.Shares.{Allocated}
 use Rattle.coding.proofs.Shares.{shares-all}
 use Rattle.coding.proofs.Joining.{length-joined, joined-stretch, joined-same, joined-cut}
 use Rattle.coding.proofs.RoundTrip.{sent-length, sent-bits}
-use Rattle.demands.specs.Steps.{blockCount, blockPlaces, blockIndex, allPlaces, blockShare, Word, Steps}
+use Rattle.demands.specs.Steps.{blockCount, blockPlaces, blockIndex, allPlaces, blockShare, codedLength, blockStart, Word, Steps}
 
 module _ (R block : List ℕ) (taken : planNumber R (length block) ≡ 0) where
   abbrev u : List ℕ
@@ -104,7 +106,7 @@ module _ (R block : List ℕ) (taken : planNumber R (length block) ≡ 0) where
   stairs = table-stairs R (plan-passed R (length block) taken .0) i (cut .size)
 
   word-coded : (r : ℕ) → r < c → Word R (length block) (own R b u r) (word r)
-  unfolding blockPlaces blockIndex systematic withFiller
+  unfolding blockPlaces blockIndex codedLength systematic withFiller
   word-coded r l =
       record {
         systematic = ap (take (places R b)) (word-is r)
@@ -121,7 +123,7 @@ module _ (R block : List ℕ) (taken : planNumber R (length block) ≡ 0) where
 
   -- a word of the own bits is the coded block
   word-only : (r : ℕ) (w : List ℕ) → r < c → Word R (length block) (own R b u r) w → w ≡ word r
-  unfolding blockPlaces blockIndex systematic withFiller
+  unfolding blockPlaces blockIndex codedLength systematic withFiller
   word-only r w l h =
       let front : take (kb R * z R i) w ≡ sys r =
       ap (λ (n : ℕ). take n w) (sym (cut .product)) ∙ h .systematic in
@@ -135,20 +137,24 @@ module _ (R block : List ℕ) (taken : planNumber R (length block) ≡ 0) where
     abbrev e : ℕ → ℕ
     e = blockShare R (length block) terms g
 
+    abbrev start : ℕ
+    start = blockStart R (length block) terms
+
     f : ℕ → List ℕ
-    f r = matched (word r) (e r)
+    f r = matched (turned start (word r)) (e r)
 
     share-is : (r : ℕ) → share terms g c r .0 ≡ e r
     unfolding share spare codedBitsOf symbolPlaces symbolPlacesOf allPlaces blockShare blockCount
     share-is r = refl
 
-    block-is : (r : ℕ) → blockSent R b u terms g r ≡ f r
-    unfolding f blockSent
-    block-is r = ap (matched (word r)) (share-is r)
+    block-is : (r : ℕ) → r < c → blockSent R b u terms g r ≡ f r
+    unfolding f blockSent matchedFrom startOf blockStart
+    block-is r l =
+        ap₂ (λ (d n : ℕ). matched (turned (cond (eqb (kind R) 2) (d / 4 * terms .rv) 0) (word r)) n) (word-coded r l .long) (share-is r)
 
     f-size : (r : ℕ) → length (f r) ≡ e r
-    unfolding f matched
-    f-size r = length-list (e r) (λ k. getD (kept (word r)) (k % length (kept (word r))) 0)
+    unfolding f
+    f-size r = matched-length (turned start (word r)) (e r)
 
     f-joined : (n : ℕ) → length (joined n f) ≡ sumBelow n e
     f-joined n = length-joined f n ∙ sum-same n (λ r. length (f r)) e (λ r l. f-size r)
@@ -158,7 +164,7 @@ module _ (R block : List ℕ) (taken : planNumber R (length block) ≡ 0) where
 
     sent-is : radioBits R b u terms g ≡ joined c f
     unfolding radioBits
-    sent-is = joined-same (blockSent R b u terms g) f c (λ r l. block-is r)
+    sent-is = joined-same (blockSent R b u terms g) f c block-is
 
     block-stretch : (r : ℕ) → r < c → take (e r) (drop (sumBelow r e) (radioBits R b u terms g)) ≡ f r
     block-stretch r l =
@@ -190,6 +196,6 @@ module _ (R block : List ℕ) (taken : planNumber R (length block) ≡ 0) where
         let own-word : (r : ℕ) → r < c → s .word r ≡ word r =
         λ r l. word-only r (s .word r) l (subst (λ (v : List ℕ). Word R (length block) (own R b v r) (s .word r)) (s .appended) (s .coded r l)) in
         let each : (r : ℕ) → r < c → take (e r) (drop (sumBelow r e) bits) ≡ f r =
-        λ r l. s .stretch r l ∙ ap (λ (w : List ℕ). matched w (e r)) (own-word r l) in
+        λ r l. s .stretch r l ∙ ap (λ (w : List ℕ). matched (turned start w) (e r)) (own-word r l) in
         sym (take-all (sumBelow c e) bits (omega (arith, s .long, shares))) ∙ sym (joined-cut e bits c)
         ∙ joined-same (λ r. take (e r) (drop (sumBelow r e) bits)) f c each ∙ sym sent-is

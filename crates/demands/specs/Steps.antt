@@ -1,22 +1,22 @@
 -- What the second demand says of sending: the six steps of document 01, "From block to radio bits", as facts of the bits that a transport block is
--- sent as. R is the profile's record. No parity bits are searched for here, and no stretch is joined; the checksum, cutting, the matrix and rate
--- matching are the definitions that sending itself is made of.
+-- sent as, "for each rv" (document 02, CR 3). R is the profile's record. No parity bits are searched for here, and no stretch is joined; the checksum,
+-- cutting, the matrix and rate matching are the definitions that sending itself is made of.
 use mathlib.Core.Path.{_≡_}
 use mathlib.Core.Bool.{true, cond}
 use mathlib.Core.List.{List, _++_}
 use Prim.Native.Nat.{ℕ, _+_, _-_, _*_, _/_, _%_, _≤_, _<_}
-use lib.Dec.{ltb}
+use lib.Dec.{eqb, ltb}
 use lib.ListN.{length, getD, take, drop, replicate}
 use Rattle.bits.specs.Bits.{AreBits, digits, unpacked}
 use Rattle.bits.specs.Counts.{ceil, placeBits}
 use Rattle.bits.specs.Ranges.{sumBelow}
 use Rattle.bits.specs.declared.count.Terms.{Terms}
 use Rattle.checksum.specs.Crc.{checksum, gen24A}
-use Rattle.profile.specs.Record.{z, rows, columns, table}
+use Rattle.profile.specs.Record.{kind, z, rows, columns, table}
 use Rattle.cutting.specs.Plan.{blockBits, blocks, ownBits, sizeIndex, places}
 use Rattle.cutting.specs.Cutting.{own}
 use Rattle.parity.specs.Matrix.{checks}
-use Rattle.matching.specs.Matching.{matched}
+use Rattle.matching.specs.Matching.{matched, turned}
 use Rattle.coding.specs.Joining.{joined}
 
 -- C and K of a block of so many octets, and which of the record's sizes is chosen for it
@@ -38,11 +38,19 @@ blockShare R octets terms g r =
     placeBits terms
     * cond (ltb r (allPlaces terms g % blockCount R octets)) (ceil (allPlaces terms g) (blockCount R octets)) (allPlaces terms g / blockCount R octets)
 
--- 3 and 4. w is the coded block of these own bits: "Places past a block's own bits, at its end, are filler"; "K systematic places and then m·z parity
--- bits. It must check with filler read as 0. Filler places stay marked."
+-- how long a coded block is, filler counted: K systematic places, and "the last (m+x)·z of them parity" (document 02, CR 3)
+unfoldable pub codedLength : List ℕ → ℕ → ℕ
+codedLength R octets = blockPlaces R octets + rows R * z R (blockIndex R octets)
+
+-- the place that a block's bits start from: "Type 2 starts rate matching at floor(D/4)·rv, D being the coded length" (CR 3), and type 1 at the first
+unfoldable pub blockStart : List ℕ → ℕ → Terms → ℕ
+blockStart R octets terms = cond (eqb (kind R) 2) (codedLength R octets / 4 * terms .rv) 0
+
+-- 3 and 4. w is the coded block of these own bits: "Places past a block's own bits, at its end, are filler"; "K systematic places" and then (m+x)·z parity
+-- bits. "It must check with filler read as 0. Filler places stay marked."
 pub record Word (R : List ℕ) (octets : ℕ) (mine w : List ℕ) : Type 0 where
   pub systematic : take (blockPlaces R octets) w ≡ mine ++ replicate (blockPlaces R octets - length mine) 2
-  pub long : length w ≡ blockPlaces R octets + rows R * z R (blockIndex R octets)
+  pub long : length w ≡ codedLength R octets
   pub parity : (p : ℕ) → blockPlaces R octets ≤ p → getD w p 0 < 2
   pub checked : checks (table R (blockIndex R octets)) (rows R) (columns R) (z R (blockIndex R octets)) w ≡ true
 
@@ -58,11 +66,11 @@ pub record Steps (R block : List ℕ) (terms : Terms) (g : ℕ) (bits : List ℕ
   -- 3 and 4, of each block
   pub word : ℕ → List ℕ
   pub coded : (r : ℕ) → r < blockCount R (length block) → Word R (length block) (own R (blockBits (length block)) transport r) (word r)
-  -- 5 and 6. A block's E_r bits "are its coded places in order from the first, filler skipped, starting again at the first after the last", and go
+  -- 5 and 6. A block's E_r bits are its coded places in order from its start on, "filler skipped, starting again at the first after the last", and go
   -- into its own stretch, behind those of the blocks before it
   pub stretch : (r : ℕ) → r < blockCount R (length block)
       → take (blockShare R (length block) terms g r) (drop (sumBelow r (blockShare R (length block) terms g)) bits)
-      ≡ matched (word r) (blockShare R (length block) terms g r)
+      ≡ matched (turned (blockStart R (length block) terms) (word r)) (blockShare R (length block) terms g r)
   -- 5. "the shares now add up to G" (CR 1)
   pub all : sumBelow (blockCount R (length block)) (blockShare R (length block) terms g) ≡ g
   -- and the bits are G, each 0 or 1

@@ -1,4 +1,5 @@
--- The cases marked P of document 01, "Small profile and worked numbers", and those of CR 1, in one table: what the definitions compute, and what is due.
+-- The cases marked P of document 01, "Small profile and worked numbers", and those of CR 1, in one table, and those of CR 3 in a second: what the
+-- definitions compute, and what is due.
 use mathlib.Core.List.{List, [], _∷_, _++_}
 use Prim.Native.Nat.{ℕ}
 use lib.ListN.{take, replicate}
@@ -6,17 +7,18 @@ use Rattle.bits.specs.Bits.{unpacked}
 use Rattle.bits.specs.Ranges.{listBelow}
 use Rattle.bits.specs.declared.count.Terms.{Terms}
 use Rattle.checksum.specs.Crc.{checksum, gen24A, gen16, gen8}
-use Rattle.profile.specs.Record.{z, rows, columns, table}
+use Rattle.profile.specs.Record.{kind, z, rows, columns, table}
 use Rattle.cutting.specs.Plan.{blockBits, blocks}
 use Rattle.cutting.specs.Transport.{transport}
 use Rattle.parity.specs.Coded.{coded}
+use Rattle.matching.specs.Matching.{matchedFrom}
 use Rattle.coding.specs.Allocation.{share}
 use Rattle.coding.specs.Joining.{radioBits}
 
--- "The toy record has kb 1, m 3, one z of 2; in hex, 22 octets"
+-- "The toy record has kb 1, m 3, one z of 2"; "The toy record becomes 26 octets" (document 02, CR 3), with x 0 and type 1
 unfoldable pub toy : List ℕ
 toy =
-    0x00 ∷ 0x01 ∷ 0x00 ∷ 0x03 ∷ 0x00 ∷ 0x01 ∷ 0x00 ∷ 0x02 ∷ 0x00 ∷ 0x0A
+    0x00 ∷ 0x01 ∷ 0x00 ∷ 0x03 ∷ 0x00 ∷ 0x00 ∷ 0x00 ∷ 0x01 ∷ 0x00 ∷ 0x01 ∷ 0x00 ∷ 0x02 ∷ 0x00 ∷ 0x0E
     ∷ 0x00 ∷ 0x01 ∷ 0x00 ∷ 0xFF ∷ 0x01 ∷ 0x00 ∷ 0x00 ∷ 0x00 ∷ 0xFF ∷ 0x01 ∷ 0xFF ∷ 0x00 ∷ []
 
 -- P10: "The bits packed into octets, as the sample program prints them in one line"
@@ -45,15 +47,18 @@ c0With126 =
 unfoldable pub toyWord : List ℕ → List ℕ
 toyWord places = coded (table toy 0) (rows toy) (columns toy) (z toy 0) places
 
--- "N_L 1, Q_m 2"
+-- "N_L 1, Q_m 2", and "Type 1 requires rv 0"
 abbrev pub toyTerms : Terms
-toyTerms = record { nl = 1; qm = 2 }
+toyTerms = record { nl = 1; qm = 2; rv = 0 }
 
--- transport bits of one octet with the toy: B, C, each block's share, and the bits that they are sent as
-unfoldable pub toySent : List ℕ → ℕ → List ℕ
-toySent bits g =
-    blockBits 1 ∷ blocks toy (blockBits 1) ∷ listBelow (blocks toy (blockBits 1)) (λ r. share toyTerms g (blocks toy (blockBits 1)) r .0)
-    ++ radioBits toy (blockBits 1) bits toyTerms g
+-- the transport bits of one octet: B, C, each block's share, and the bits that they are sent as
+unfoldable pub sentWith : List ℕ → Terms → List ℕ → ℕ → List ℕ
+sentWith R terms bits g =
+    blockBits 1 ∷ blocks R (blockBits 1) ∷ listBelow (blocks R (blockBits 1)) (λ r. share terms g (blocks R (blockBits 1)) r .0)
+    ++ radioBits R (blockBits 1) bits terms g
+
+abbrev pub toySent : List ℕ → ℕ → List ℕ
+toySent bits g = sentWith toy toyTerms bits g
 
 pub record Case : Type 0 where
   pub computed : List ℕ
@@ -90,6 +95,66 @@ cases =
     -- γ 15: the last block alone has 6
     ∷ record { computed = toySent (transport (0xC0 ∷ [])) 126; due = 32 ∷ 16 ∷ replicate 15 8 ++ 6 ∷ take 126 (unpacked c0With126) }
     ∷ []
+
+-- ---- document 02, CR 3: type 2
+
+-- kb 1, m 3, x 1, type 2 and one z of 3: 34 octets. The extension row reads columns 1 and 3, and its own column is 4.
+unfoldable pub typeTwo : List ℕ
+typeTwo =
+    0x00 ∷ 0x01 ∷ 0x00 ∷ 0x03 ∷ 0x00 ∷ 0x01 ∷ 0x00 ∷ 0x02 ∷ 0x00 ∷ 0x01 ∷ 0x00 ∷ 0x03 ∷ 0x00 ∷ 0x0E
+    ∷ 0x00 ∷ 0x01 ∷ 0x00 ∷ 0xFF ∷ 0xFF ∷ 0x02 ∷ 0x00 ∷ 0x00 ∷ 0x00 ∷ 0xFF ∷ 0x01 ∷ 0x01 ∷ 0xFF ∷ 0x00 ∷ 0xFF ∷ 0xFF ∷ 0x02 ∷ 0xFF ∷ 0x01 ∷ 0x00 ∷ []
+
+unfoldable pub typeTwoWord : List ℕ → List ℕ
+typeTwoWord places = coded (table typeTwo 0) (rows typeTwo) (columns typeTwo) (z typeTwo 0) places
+
+-- two own bits and a filler, and the 16 bits that their coded block is sent as: its 14 kept places, and then two once more
+unfoldable pub lastPlaces : List ℕ
+lastPlaces = 1 ∷ 1 ∷ 2 ∷ []
+
+unfoldable pub typeTwoMatched : ℕ → List ℕ
+typeTwoMatched rv = matchedFrom (kind typeTwo) rv (typeTwoWord lastPlaces) 16
+
+-- N_L 1, Q_m 2, G 176
+unfoldable pub typeTwoSent : List ℕ → ℕ → List ℕ
+typeTwoSent bits rv = sentWith typeTwo (record { nl = 1; qm = 2; rv = rv }) bits 176
+
+-- octet A5 for each rv, packed into octets; its last block has the places above
+unfoldable pub a5With0 : List ℕ
+a5With0 =
+    0xA2 ∷ 0xBD ∷ 0x3F ∷ 0x58 ∷ 0x5E ∷ 0xB2 ∷ 0x5E ∷ 0xB2 ∷ 0xA2 ∷ 0xBD ∷ 0x00 ∷ 0x00 ∷ 0xFC ∷ 0x0F ∷ 0x9D ∷ 0xE5 ∷ 0x5E ∷ 0xB2 ∷ 0xA2 ∷ 0xBD ∷ 0xC6 ∷ 0xAF ∷ []
+
+unfoldable pub a5With1 : List ℕ
+a5With1 =
+    0x15 ∷ 0xEA ∷ 0xFA ∷ 0xC3 ∷ 0xF5 ∷ 0x95 ∷ 0xF5 ∷ 0x95 ∷ 0x15 ∷ 0xEA ∷ 0x00 ∷ 0x00 ∷ 0xE0 ∷ 0x7F ∷ 0xEF ∷ 0x29 ∷ 0xF5 ∷ 0x95 ∷ 0x15 ∷ 0xEA ∷ 0x1A ∷ 0xBC ∷ []
+
+unfoldable pub a5With2 : List ℕ
+a5With2 =
+    0xAF ∷ 0x51 ∷ 0xD6 ∷ 0x1F ∷ 0xAC ∷ 0xAF ∷ 0xAC ∷ 0xAF ∷ 0xAF ∷ 0x51 ∷ 0x00 ∷ 0x00 ∷ 0x03 ∷ 0xFE ∷ 0x79 ∷ 0x4E ∷ 0xAC ∷ 0xAF ∷ 0xAF ∷ 0x51 ∷ 0xD5 ∷ 0xE3 ∷ []
+
+unfoldable pub a5With3 : List ℕ
+a5With3 =
+    0x7A ∷ 0x8A ∷ 0xB0 ∷ 0xFD ∷ 0x65 ∷ 0x7A ∷ 0x65 ∷ 0x7A ∷ 0x7A ∷ 0x8A ∷ 0x00 ∷ 0x00 ∷ 0x1F ∷ 0xF0 ∷ 0xCA ∷ 0x77 ∷ 0x65 ∷ 0x7A ∷ 0x7A ∷ 0x8A ∷ 0xAF ∷ 0x1A ∷ []
+
+unfoldable pub versions : List Case
+versions =
+    -- "a word has (kb+m+x)·z bits, the last (m+x)·z of them parity": the filler stays marked
+    record { computed = typeTwoWord lastPlaces; due = 1 ∷ 1 ∷ 2 ∷ 0 ∷ 0 ∷ 0 ∷ 1 ∷ 1 ∷ 0 ∷ 1 ∷ 0 ∷ 1 ∷ 0 ∷ 1 ∷ 1 ∷ [] }
+    -- "Type 2 starts rate matching at floor(D/4)·rv": D is 15, so rv 0 starts at place 0
+    ∷ record { computed = typeTwoMatched 0; due = 1 ∷ 1 ∷ 0 ∷ 0 ∷ 0 ∷ 1 ∷ 1 ∷ 0 ∷ 1 ∷ 0 ∷ 1 ∷ 0 ∷ 1 ∷ 1 ∷ 1 ∷ 1 ∷ [] }
+    -- at place 3, right behind the filler, which counts for the start
+    ∷ record { computed = typeTwoMatched 1; due = 0 ∷ 0 ∷ 0 ∷ 1 ∷ 1 ∷ 0 ∷ 1 ∷ 0 ∷ 1 ∷ 0 ∷ 1 ∷ 1 ∷ 1 ∷ 1 ∷ 0 ∷ 0 ∷ [] }
+    -- at place 6
+    ∷ record { computed = typeTwoMatched 2; due = 1 ∷ 1 ∷ 0 ∷ 1 ∷ 0 ∷ 1 ∷ 0 ∷ 1 ∷ 1 ∷ 1 ∷ 1 ∷ 0 ∷ 0 ∷ 0 ∷ 1 ∷ 1 ∷ [] }
+    -- at place 9
+    ∷ record { computed = typeTwoMatched 3; due = 1 ∷ 0 ∷ 1 ∷ 0 ∷ 1 ∷ 1 ∷ 1 ∷ 1 ∷ 0 ∷ 0 ∷ 0 ∷ 1 ∷ 1 ∷ 0 ∷ 1 ∷ 0 ∷ [] }
+    -- octet A5: B 32, C 11, E 16, and the bits for each rv
+    ∷ record { computed = typeTwoSent (transport (0xA5 ∷ [])) 0; due = 32 ∷ 11 ∷ replicate 11 16 ++ unpacked a5With0 }
+    ∷ record { computed = typeTwoSent (transport (0xA5 ∷ [])) 1; due = 32 ∷ 11 ∷ replicate 11 16 ++ unpacked a5With1 }
+    ∷ record { computed = typeTwoSent (transport (0xA5 ∷ [])) 2; due = 32 ∷ 11 ∷ replicate 11 16 ++ unpacked a5With2 }
+    ∷ record { computed = typeTwoSent (transport (0xA5 ∷ [])) 3; due = 32 ∷ 11 ∷ replicate 11 16 ++ unpacked a5With3 }
+    ∷ []
+
+-- ---- the columns of both tables
 
 abbrev pub computed : Case → List ℕ
 computed c = c .computed

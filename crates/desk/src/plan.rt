@@ -39,7 +39,8 @@ fn say(words: Words, why: &[u8]) -> i32 {
         b"usage: kuambyte plan RECORD OCTETS [LAYERS ORDER]
 
 Writes how a transport block of OCTETS octets is cut: B, C, z and K, each code block's own bits, filler and N, the least G with
-which every code block has room for all its coded bits, and the blocks' shares of that G.
+which every code block has room for all its coded bits, and the blocks' shares of that G; with a profile of Type 2 also the
+places of a code block from which its redundancy versions are sent.
 
   RECORD   a file with a profile record, as kuambyte lookup writes it
   OCTETS   A/8, the octets of the block: 1 to 2048
@@ -93,7 +94,8 @@ fn put(profile: &[u8], plan: Plan, asked: Parameters, page: &mut [u8]) -> usize
         0,
     );
     let b = rows(profile, plan, asked.octets, page, a);
-    foot(profile, asked, page, b)
+    let c = starts(profile, plan, asked.octets, page, b);
+    foot(profile, asked, page, c)
 }
 
 fn rows(profile: &[u8], plan: Plan, octets: usize, page: &mut [u8], from: usize) -> usize
@@ -138,6 +140,25 @@ fn row(number: usize, part: Part, page: &mut [u8], at: usize) -> usize {
     let c = page::right(part.filler, 8, page, b);
     let d = page::right(part.sendable, 6, page, c);
     page::put(b"\n", page, d)
+}
+
+// From where each redundancy version is sent. Type 1 has only the first.
+fn starts(profile: &[u8], plan: Plan, octets: usize, page: &mut [u8], at: usize) -> usize
+    requires { ⌜ (plan .number ≡ 0) × (plan ≡ planned (now profile) octets) ⌝ }
+{
+    if profile::inner::kind(profile) == 1 {
+        return at;
+    }
+    let places = block::inner::size(profile, plan);
+    let one = block::inner::start(profile, plan, 1);
+    let two = block::inner::start(profile, plan, 2);
+    let three = block::inner::start(profile, plan, 3);
+    page::form(
+        b"\nrv 0 to 3 start at the places 0, #, # and # of #\n",
+        &[one, two, three, places],
+        page,
+        at,
+    )
 }
 
 fn foot(profile: &[u8], asked: Parameters, page: &mut [u8], at: usize) -> usize {

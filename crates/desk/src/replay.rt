@@ -33,6 +33,7 @@ Reads requests, one to a line, and writes an answer to each. Requests, and what 
 
 SHELVES are two words, PRIVATE and PUBLIC; behind PROFILE the words of send, recv and check behind RECORD.
 check, recv, hrecv and hcheck may end in by=quick or by=plain: which checker is asked, quick where nothing is said.
+send, recv, hsend, hrecv and rate may end in rv=N, the redundancy version, and rate in type=N: 0 and 1 where nothing is said.
 
 docs/REQUESTS.md describes requests, their words and the answers.
 ",

@@ -3,9 +3,10 @@ use bits::count::CodedBits;
 use bits::count::Terms;
 use console::argv::Number;
 use console::argv::read_number;
+use console::argv::read_option;
 use text::values;
 
-// The words TENANT and PROFILE, and of a block its octets, N_L, Q_m and G.
+// The words TENANT and PROFILE, and of a block its octets, N_L, Q_m and G, and behind --rv its redundancy version.
 pub struct Parameters {
     pub tenant: u16,
     pub profile: u16,
@@ -24,7 +25,11 @@ pub fn for_lookup() -> Parameters {
         tenant: values::short_of(tenant.value),
         profile: values::short_of(profile.value),
         octets: 0,
-        terms: Terms { nl: 0, qm: 0 },
+        terms: Terms {
+            nl: 0,
+            qm: 0,
+            rv: 0,
+        },
         g: CodedBits(0),
         bad: tenant.bad | profile.bad,
     }
@@ -36,12 +41,14 @@ pub fn for_send() -> Parameters {
     let layers = read_number(4, b"LAYERS", usize::MAX);
     let order = read_number(5, b"ORDER", usize::MAX);
     let bits = read_number(6, b"BITS", usize::MAX);
+    let version = read_version();
     let terms = Terms {
         nl: layers.value,
         qm: order.value,
+        rv: version.value,
     };
     asked.terms = terms;
-    asked.bad = asked.bad | layers.bad | order.bad | bits.bad;
+    asked.bad = asked.bad | layers.bad | order.bad | bits.bad | version.bad;
     with_bits(asked, bits.value)
 }
 
@@ -55,13 +62,20 @@ pub fn for_receive() -> Parameters {
     let layers = read_number(5, b"LAYERS", usize::MAX);
     let order = read_number(6, b"ORDER", usize::MAX);
     asked.octets = octets.value;
+    let version = read_version();
     let terms = Terms {
         nl: layers.value,
         qm: order.value,
+        rv: version.value,
     };
     asked.terms = terms;
-    asked.bad = asked.bad | octets.bad | layers.bad | order.bad;
+    asked.bad = asked.bad | octets.bad | layers.bad | order.bad | version.bad;
     asked
+}
+
+// The redundancy version behind --rv, 0 where it is not given. The library refuses those that it does not take.
+fn read_version() -> Number {
+    read_option(b"--rv", b"N", usize::MAX, 0)
 }
 
 // RECORD OCTETS [LAYERS ORDER]; one layer and two bits to a symbol where there are only two words.
@@ -76,6 +90,7 @@ pub fn for_plan(words: usize) -> Parameters {
         terms: Terms {
             nl: layers.value,
             qm: order.value,
+            rv: 0,
         },
         g: CodedBits(0),
         bad: octets.bad | layers.bad | order.bad,

@@ -48,7 +48,7 @@ fn say(words: Words, why: &[u8]) -> i32 {
         why,
         b"usage: kuambyte check PRIVATE PUBLIC TENANT PROFILE Z [--plain] [--text] < word
 
-Reads a word of (kb+m) times Z bits and writes whether it checks: whether every row of the spread-out matrix sums to an even number
+Reads a word of (kb+m+x) times Z bits and writes whether it checks: whether every row of the spread-out matrix sums to an even number
 over it. Where it does not, a line for each group of rows that has odd ones says which they are, counted from 0 in their group.
 
   PRIVATE, PUBLIC   the shelf files; the tenant's own record goes before the public one
@@ -161,7 +161,7 @@ fn put_between(first: bool, last: bool, line: &mut [u8], at: usize) -> usize {
 }
 
 fn write_odd(record: &[u8], z: usize, word: &[u8]) -> i32 {
-    let mut sums = [0u8; 972];
+    let mut sums = [0u8; 3240];
     let summed = checking::row_sums(record, z, word, &mut sums);
     let mut page = io::large_buffer();
     let a = page::put(b"does not check; odd rows:\n", &mut page, 0);

@@ -4,6 +4,7 @@ use crate::least;
 use bits::count::Terms;
 use bits::count::inner::is_usable;
 use bits::count::inner::place_bits;
+use bits::number::DONE;
 use console::meanings;
 use console::page;
 use libc::STDERR_FILENO;
@@ -37,6 +38,7 @@ fn hint(number: u32, record: &[u8], asked: Parameters, line: &mut [u8], at: usiz
         8 => parameters(asked, line, at),
         10 | 13 => least_bits(record, asked, line, at),
         12 => page::put(b"; each has to be 0 or 1", line, at),
+        16 => version(record, line, at),
         _ => at,
     }
 }
@@ -57,6 +59,17 @@ fn product(terms: Terms, line: &mut [u8], at: usize) -> usize {
         return at;
     }
     page::form(b" (here #)", &[place_bits(terms)], line, at)
+}
+
+// The redundancy versions that go with the profile's type.
+fn version(record: &[u8], line: &mut [u8], at: usize) -> usize {
+    if profile::judge(record) != DONE {
+        return at;
+    }
+    if profile::inner::kind(record) == 1 {
+        return page::put(b"; this profile is of Type 1, so it is 0", line, at);
+    }
+    page::put(b"; 0 to 3 are accepted", line, at)
 }
 
 // The least G with which every code block has room.

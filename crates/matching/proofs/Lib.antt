@@ -1,6 +1,12 @@
 pub mod Places
 pub mod Kept
 pub mod Runs
+pub mod Turned
+pub mod Put
+pub mod Start
 pub mod Stretch
+pub mod Heard
+pub mod Gathered
 pub mod Answers
 pub mod Agreement
+pub mod Worked

@@ -1,4 +1,7 @@
-// For the layers above, which know where a block's filler lies: its bits, its copies, and the word gathered from a stretch.
+// For the layers above, which know where a block's filler lies: its start, its bits, its copies, and the word gathered from a stretch.
+use crate::line::least;
+use crate::line::line_up;
+use crate::line::past;
 use crate::marks::repeat;
 use bits::count::CodedBits;
 use bits::inner::lay;
@@ -8,27 +11,52 @@ ghost use mathlib.Core.List.{_++_};
 ghost use Prim.Native.Nat.{_+_, _-_, _≤_, _<_};
 ghost use lib.ListN.{length, take, drop};
 ghost use Rattle.bits.specs.Bits.{withFiller};
-ghost use Rattle.matching.specs.Matching.{matched};
+ghost use Rattle.matching.specs.Matching.{matched, turned, startOf, misversioned};
 ghost use Rattle.matching.specs.steps.Places.{Filled};
 ghost use Rattle.matching.specs.steps.Copies.{copiesAgree};
+ghost use Rattle.matching.specs.steps.Line.{heard};
 
-// The e bits of a coded block whose filler lies from `own` to `places`: its two runs, and then their repetition.
-pub fn match_filled(coded: &[u8], own: usize, places: usize, e: CodedBits, out: &mut [u8])
-    requires { ⌜ Filled (now coded) own places × (places < length (now coded)) × (e .0 ≤ length (now out)) ⌝ }
-    ensures { λ _. ⌜ now (out .exit) ≡ matched (now (coded .entry)) (e .0) ++ drop (e .0) (now (out .entry)) ⌝ }
+// Whether the redundancy version is over 3, or is not 0 with Type 1.
+pub fn is_misversioned(kind: usize, rv: usize) -> bool
+    ensures { λ r. ⌜ r ≡ misversioned kind rv ⌝ }
 {
-    if e.0 <= own {
-        lay(coded, 0, out, 0, e.0);
-        return;
+    if 3 < rv {
+        return true;
     }
-    lay(coded, 0, out, 0, own);
-    let n = CodedBits(own + (coded.len() - places));
-    if e.0 <= n.0 {
-        lay(coded, places, out, own, e.0 - own);
-        return;
+    if kind != 1 {
+        return false;
     }
-    lay(coded, places, out, own, n.0 - own);
-    repeat(out, n, e);
+    0 < rv
+}
+
+// The place from which a coded block of d places is sent. It is a place of the block or its end.
+pub fn start_of(kind: usize, rv: usize, d: usize) -> usize
+    requires { ⌜ rv ≤ 3 ⌝ }
+    ensures { λ r. ⌜ (r ≡ startOf kind rv d) × (r ≤ d) ⌝ }
+{
+    if kind == 2 {
+        let start = d / 4 * rv;
+        return start;
+    }
+    0
+}
+
+// The e bits of a coded block whose filler lies from `own` to `places`, from the place `start` on: its runs, and then their repetition.
+pub fn match_filled(
+    coded: &[u8],
+    own: usize,
+    places: usize,
+    start: usize,
+    e: CodedBits,
+    out: &mut [u8],
+)
+    requires { ⌜ Filled (now coded) own places × (places < length (now coded)) × (start ≤ length (now coded)) × (e .0 ≤ length (now out)) ⌝ }
+    ensures { λ _. ⌜ now (out .exit) ≡ matched (turned start (now (coded .entry))) (e .0) ++ drop (e .0) (now (out .entry)) ⌝ }
+{
+    let n = line_up(coded, own, places, start, e, out);
+    if n.0 < e.0 {
+        repeat(out, n, e);
+    }
 }
 
 // Whether every place past the first n holds what stands n places before it. It looks at every place, with no early way out, so that the loop is straight.
@@ -46,13 +74,24 @@ pub fn copies_agree(s: &[u8], n: CodedBits) -> bool
     agree
 }
 
-// Lays the first bits of a stretch into the word: own bits, filler, and the parity bits behind them.
-pub fn gather(s: &[u8], own: usize, places: usize, word: &mut [u8])
-    requires { ⌜ (own ≤ places) × (places ≤ length (now word)) × (own + (length (now word) - places) ≤ length (now s)) ⌝ }
-    ensures { λ _. ⌜ now (word .exit) ≡ withFiller places (take own (now (s .entry))) ++ take (length (now (word .entry)) - places) (drop own (now (s .entry))) ⌝ }
+// Lays the first bits of a stretch into the word, each in its place: own bits, filler, and the parity bits behind them. Of both kinds, what stands
+// before the start was sent last, from `turn` on.
+pub fn gather(s: &[u8], own: usize, places: usize, start: usize, word: &mut [u8])
+    requires { ⌜ (own ≤ places) × (places ≤ length (now word)) × (start ≤ length (now word)) × (own + (length (now word) - places) ≤ length (now s)) ⌝ }
+    ensures { λ _. ⌜ now (word .exit) ≡ withFiller places (take own (heard own places start (length (now (word .entry))) (now (s .entry)))) ++ take (length (now (word .entry)) - places) (drop own (heard own places start (length (now (word .entry))) (now (s .entry)))) ⌝ }
 {
-    lay(s, 0, word, 0, own);
-    mark(word, own, places);
+    let low = least(own, start);
+    let high = past(places, start);
     let rest = word.len() - places;
-    lay(s, own, word, places, rest);
+    let before = low + high;
+    let turn = own + rest - before;
+    let later = turn + low;
+    let first = own - low;
+    let last = rest - high;
+    let at = places + high;
+    lay(s, turn, word, 0, low);
+    lay(s, 0, word, low, first);
+    mark(word, own, places);
+    lay(s, later, word, places, high);
+    lay(s, first, word, at, last);
 }

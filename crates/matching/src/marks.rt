@@ -1,18 +1,21 @@
 // Rate matching of a coded block with marks anywhere: its kept places once, and then their repetition.
+use crate::inner::is_misversioned;
 use bits::count::CodedBits;
 use bits::number::DONE;
 use bits::number::NO_BIT;
 use bits::number::PARAMETER;
+use bits::number::PROFILE;
 use bits::number::SHORT_OUTPUT;
+use bits::number::VERSION;
 ghost use mathlib.Core.Path.{_≡_};
 ghost use mathlib.Core.Bool.{false};
-ghost use mathlib.Core.List.{_++_};
+ghost use mathlib.Core.List.{[], _∷_, _++_};
 ghost use Prim.Native.Nat.{_+_, _-_, _≤_, _<_};
 ghost use lib.Dec.{eqb};
 ghost use lib.ListN.{length, drop};
-ghost use Rattle.matching.specs.Matching.{kept, matched};
+ghost use Rattle.matching.specs.Matching.{kept, matched, turned};
 ghost use Rattle.matching.specs.Promises.{unmatchable, matchNumber};
-ghost use Rattle.matching.specs.steps.Places.{Repeated, PutKept, Keeping};
+ghost use Rattle.matching.specs.steps.Places.{Repeated, stretch, Put};
 
 // Repeats the first n octets up to e.
 pub fn repeat(out: &mut [u8], n: CodedBits, e: CodedBits)
@@ -31,7 +34,7 @@ pub fn repeat(out: &mut [u8], n: CodedBits, e: CodedBits)
 // Writes a place where it is kept and asked for, and answers how many are written then.
 fn put_kept(x: u8, out: &mut [u8], k: usize, e: CodedBits) -> usize
     requires { ⌜ (k ≤ e .0) × (e .0 ≤ length (now out)) ⌝ }
-    ensures { λ r. ⌜ PutKept x k (e .0) (now (out .entry)) r (now (out .exit)) ⌝ }
+    ensures { λ r. ⌜ Put (kept (x ∷ [])) (now (out .entry)) k (e .0) r (now (out .exit)) ⌝ }
 {
     let end = e.0;
     if x == 2 {
@@ -44,26 +47,37 @@ fn put_kept(x: u8, out: &mut [u8], k: usize, e: CodedBits) -> usize
     k + 1
 }
 
-// Writes the kept places in order, at most e of them, and answers how many.
-fn put_all_kept(coded: &[u8], e: CodedBits, out: &mut [u8]) -> CodedBits
-    requires { ⌜ e .0 ≤ length (now out) ⌝ }
-    ensures { λ r. ⌜ Keeping (now (coded .entry)) (now (out .entry)) (e .0) (length (now (coded .entry))) (r .0) (now (out .exit)) ⌝ }
+// Writes the kept ones of n places of coded, from `from` on, over out from `at` on, as many as fit below e, and answers where they end.
+fn put_all_kept(
+    coded: &[u8],
+    from: usize,
+    n: usize,
+    out: &mut [u8],
+    at: usize,
+    e: CodedBits,
+) -> usize
+    requires { ⌜ (from + n ≤ length (now coded)) × (at ≤ e .0) × (e .0 ≤ length (now out)) ⌝ }
+    ensures { λ r. ⌜ Put (kept (stretch (now (coded .entry)) from n)) (now (out .entry)) at (e .0) r (now (out .exit)) ⌝ }
 {
-    let mut k = 0;
+    let mut k = at;
     let mut i = 0;
-    while i < coded.len() {
-        k = put_kept(coded[i], out, k, e);
+    while i < n {
+        k = put_kept(coded[from + i], out, k, e);
         i += 1;
     }
-    CodedBits(k)
+    k
 }
 
-// The e bits of a coded block with marks anywhere: the kept places once, and then their repetition.
-pub fn fill(coded: &[u8], e: CodedBits, out: &mut [u8])
-    requires { ⌜ (e .0 ≤ length (now out)) × (unmatchable (now coded) (e .0) ≡ false) ⌝ }
-    ensures { λ _. ⌜ now (out .exit) ≡ matched (now (coded .entry)) (e .0) ++ drop (e .0) (now (out .entry)) ⌝ }
+// The e bits of a coded block with marks anywhere, from the place `start` on: the kept places from there on, those before it, and then their
+// repetition.
+pub fn fill(coded: &[u8], start: usize, e: CodedBits, out: &mut [u8])
+    requires { ⌜ (start ≤ length (now coded)) × (e .0 ≤ length (now out)) × (unmatchable (now coded) (e .0) ≡ false) ⌝ }
+    ensures { λ _. ⌜ now (out .exit) ≡ matched (turned start (now (coded .entry))) (e .0) ++ drop (e .0) (now (out .entry)) ⌝ }
 {
-    let n = put_all_kept(coded, e, out);
+    let behind = coded.len() - start;
+    let one = put_all_kept(coded, start, behind, out, 0, e);
+    let all = put_all_kept(coded, 0, start, out, one, e);
+    let n = CodedBits(all);
     if n.0 < e.0 {
         repeat(out, n, e);
     }
@@ -95,10 +109,19 @@ fn is_unmatchable(coded: &[u8], e: CodedBits) -> bool
     none_kept(coded)
 }
 
-pub fn match_number(coded: &[u8], e: CodedBits, room: usize) -> u32
-    ensures { λ r. ⌜ r ≡ matchNumber (now (coded .entry)) (e .0) room ⌝ }
+// 16 is tested before 8, though its number is higher.
+pub fn match_number(coded: &[u8], kind: usize, rv: usize, e: CodedBits, room: usize) -> u32
+    ensures { λ r. ⌜ r ≡ matchNumber (now (coded .entry)) kind rv (e .0) room ⌝ }
 {
-    if is_unmatchable(coded, e) {
+    if !bits::inner::is_within(1, 2, kind) {
+        return PROFILE;
+    }
+    let against = is_misversioned(kind, rv);
+    let unmatchable = is_unmatchable(coded, e);
+    if against {
+        return VERSION;
+    }
+    if unmatchable {
         return PARAMETER;
     }
     if room < e.0 {

@@ -15,7 +15,8 @@ use Rattle.bits.proofs.Ranges.{any-of, first-some}
 use Rattle.parity.specs.Matrix.{checks}
 use Rattle.parity.specs.Coded.{withParity, checksWith, hasParity, coded}
 use Rattle.parity.specs.steps.Grouped.{Solution}
-use Rattle.parity.proofs.Solve.{Solvable, checked-solved, solved-checked}
+use Rattle.parity.proofs.Rows.{Solvable}
+use Rattle.parity.proofs.Solve.{checked-solved, solved-checked}
 use Rattle.parity.proofs.Unique.{solution-unique}
 use Rattle.parity.proofs.Solutions.{some-solution}
 
@@ -80,7 +81,7 @@ module _ (T : List ℕ) (rows columns z : ℕ) (sys : List ℕ) where
 
     module _ {m : ℕ} (S : Solvable T kb m rows columns) where
       -- a word that solves the staircase from the places is the block with one of the choices, and that choice checks
-      module _ (w : List ℕ) (h : Solution T kb m columns z sys w) where
+      module _ (w : List ℕ) (h : Solution T kb m rows columns z sys w) where
         long-word : length w ≡ (kb + rows) * z
         long-word = h .size ∙ ap (λ (n : ℕ). n * z) (S .wide)
 
@@ -95,18 +96,18 @@ module _ (T : List ℕ) (rows columns z : ℕ) (sys : List ℕ) where
             any-of (2 ^ (rows * z)) (checksWith T rows columns z sys) (valueOf (drop (kb * z) w)) (choice-lt w long-word front-taken (h .bits))
             (ap (checks T rows columns z) (choice-is w long-word front-taken (h .bits)) ∙ solved-checked T kb m rows columns z w S (h .solved))
 
-      abbrev within : columns ≡ kb + m
-      within = omega (arith, S .wide, S .tall)
+      some : 0 < m
+      some = omega (arith, S .stairs .before)
 
       -- existence: there are parity bits with which the places check
       pub has-parity : hasParity T rows columns z sys ≡ true
-      has-parity = solution-has _ (some-solution T kb m columns z sys size (omega (arith, S .stairs .before)) within)
+      has-parity = solution-has _ (some-solution T kb m rows columns z sys size some (S .tall) (S .wide))
 
       pub coded-checks : checks T rows columns z (coded T rows columns z sys) ≡ true
       unfolding hasParity coded checksWith
       coded-checks = first-some (2 ^ (rows * z)) (checksWith T rows columns z sys) has-parity .holds
 
-      coded-solution : Solution T kb m columns z sys (coded T rows columns z sys)
+      coded-solution : Solution T kb m rows columns z sys (coded T rows columns z sys)
       unfolding coded
       coded-solution =
           record {
@@ -117,8 +118,8 @@ module _ (T : List ℕ) (rows columns z : ℕ) (sys : List ℕ) where
           }
 
       -- a word that solves the staircase from the places is the coded block
-      pub solved-coded : (w : List ℕ) → Solution T kb m columns z sys w → w ≡ coded T rows columns z sys
-      solved-coded w h = solution-unique T kb m columns z within sys w (coded T rows columns z sys) h coded-solution
+      pub solved-coded : (w : List ℕ) → Solution T kb m rows columns z sys w → w ≡ coded T rows columns z sys
+      solved-coded w h = solution-unique T kb m rows columns z some (S .wide) sys w (coded T rows columns z sys) h coded-solution
 
       -- uniqueness: a word that has the places in front, then bits, and checks is the coded block
       pub coded-unique : (w : List ℕ) → length w ≡ columns * z → take (kb * z) w ≡ sys
@@ -133,6 +134,6 @@ module _ (T : List ℕ) (rows columns z : ℕ) (sys : List ℕ) where
           })
 
 -- a word solved behind some places is one solved behind equal ones
-pub solution-front : {T : List ℕ} {kb m columns z : ℕ} {sys u w : List ℕ} → ((p : ℕ) → p < kb * z → getD u p 0 ≡ getD sys p 0)
-    → Solution T kb m columns z u w → Solution T kb m columns z sys w
+pub solution-front : {T : List ℕ} {kb m rows columns z : ℕ} {sys u w : List ℕ} → ((p : ℕ) → p < kb * z → getD u p 0 ≡ getD sys p 0)
+    → Solution T kb m rows columns z u w → Solution T kb m rows columns z sys w
 solution-front e h = record { size = h .size; front = λ p l. h .front p l ∙ e p l; bits = h .bits; solved = h .solved }

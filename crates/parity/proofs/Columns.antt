@@ -7,7 +7,7 @@ use native.Mathlib.Nat.{le-antisymm, zero-add, add-comm, suc-mul, mul-le-mul, mu
 use native.Mathlib.Numerals.{add-one}
 use native.Mathlib.Omega.{arith}
 use lib.Arith.{digits-lt}
-use lib.ListN.{length, getD, take, replicate, List·getD-eq-default}
+use lib.ListN.{length, getD, take, replicate, length-replicate, List·getD-eq-default}
 use lib.Seq.{length-take-le}
 use borrow.Author.Tests.{eq-eqb, ne-eqb}
 use Rattle.bits.specs.Bits.{AreBits, someOver}
@@ -81,10 +81,6 @@ entered-entry-bit z w base s u a at g d h low =
 
 -- ---- the sums
 
--- all rows of z places, of the room for the largest table
-room-length : {T : List ℕ} {rows columns z : ℕ} → Shape T rows columns z → length (take (rows * z) (replicate {A = ℕ} 972 0)) ≡ rows * z
-room-length {rows = rows} {z = z} shape = length-take-le (rows * z) (replicate 972 0) (mul-le-mul (shape .rows-most) (shape .z-most))
-
 module _ (T : List ℕ) (rows columns z : ℕ) (w : List ℕ) where
   part-more : (j i u : ℕ) → rowPart T columns z w (suc j) i u ≡ rowPart T columns z w j i u + entryBit z w (getD T (i * columns + j) 0) (j * z) u
   unfolding rowPart sumBelow term entry
@@ -101,8 +97,9 @@ module _ (T : List ℕ) (rows columns z : ℕ) (w : List ℕ) where
         left = λ i u l o low. h (i * z + u);
       }
 
-  pub sums-room : Shape T rows columns z → Sums T rows columns z w 0 0 (take (rows * z) (replicate 972 0))
-  sums-room shape = sums-none (take (rows * z) (replicate 972 0)) (room-length shape) (zeros-take (rows * z) 972)
+  -- all rows of z places, in the front of so many cleared ones
+  pub sums-room : (n : ℕ) → rows * z ≤ n → Sums T rows columns z w 0 0 (take (rows * z) (replicate n 0))
+  sums-room n h = sums-none (take (rows * z) (replicate n 0)) (length-take-le (rows * z) (replicate n 0) (omega (arith, length-replicate {A = ℕ} n 0))) (zeros-take (rows * z) n)
 
   -- one row more of column j
   row-made : (j i : ℕ) (g a b : List ℕ) → Shape T rows columns z → Doubled w (j * z) z g → i < rows → Sums T rows columns z w j i a

@@ -1,19 +1,20 @@
--- The parity columns as they are laid, one after the other, and that they solve the staircase.
+-- The parity columns as they are laid, one after the other, and that each holds what it is due.
 use mathlib.Core.Path.{_≡_, refl, sym, ap, _∙_, subst}
 use mathlib.Core.List.{List}
 use Prim.Native.Nat.{ℕ, zero, suc, _+_, _-_, _*_, _%_, _≤_, _<_}
-use native.Mathlib.Nat.{zero-add, add-zero, zero-mul, suc-mul, add-mul, le-antisymm}
+use native.Mathlib.Nat.{zero-add, add-zero, zero-mul, suc-mul, add-mul, le-antisymm, mul-le-mul-right}
 use native.Mathlib.Numerals.{add-one}
 use native.Mathlib.Omega.{arith}
 use lib.Arith.{digits-lt}
 use lib.ListN.{length, getD}
 use Rattle.bits.specs.Ranges.{sumBelow}
 use Rattle.bits.proofs.Ranges.{last-or}
-use Rattle.parity.specs.steps.Grouped.{lowBit, stack, Solution}
+use Rattle.parity.specs.steps.Grouped.{lowBit, rowPart, stack, due, Begun}
 use Rattle.parity.specs.steps.Runs.{Run, copied, added, Sums, down, allRows, rowsAbove, Groups, Together}
-use Rattle.parity.proofs.Rows.{same-bit}
+use Rattle.parity.proofs.Rows.{same-bit, part-same, stack-same}
 use Rattle.parity.proofs.Runs.{run-bits}
-use Rattle.parity.proofs.Solutions.{sums-solution}
+use Rattle.parity.proofs.Columns.{sums-word}
+use Rattle.parity.proofs.Unique.{due-first, due-next, due-later, due-same}
 
 -- ---- the rows of s together, in a group
 
@@ -97,36 +98,93 @@ down-stack T rows columns z w n s sums (suc r) l u low =
 pub first-same : (kb z : ℕ) (f : ℕ → ℕ → ℕ) (a b : List ℕ) → Groups z 1 f a (kb * z) b → (p : ℕ) → p < kb * z → lowBit a p ≡ lowBit b p
 first-same kb z f a b g p l = same-bit a b p (sym (g .below p l))
 
--- room for the columns past the first
-pub steps-in : (kb m z : ℕ) → 0 < m → (kb + 1) * z + (m - 1) * z ≡ (kb + m) * z
-steps-in kb m z h = sym (add-mul (kb + 1) (m - 1) z) ∙ ap (λ (x : ℕ). x * z) {x = kb + 1 + (m - 1)} {y = kb + m} (omega arith)
+-- room for the staircase's columns past the first
+pub steps-in : (kb m rows z : ℕ) → 0 < m → m ≤ rows → (kb + 1) * z + (m - 1) * z ≤ (kb + rows) * z
+steps-in kb m rows z h l =
+    let e : kb + 1 + (m - 1) ≤ kb + rows = omega arith in
+    omega (arith, add-mul (kb + 1) (m - 1) z, mul-le-mul-right z e)
 
--- all parity columns laid
-module _ (T : List ℕ) (kb m columns z : ℕ) (a b c s s' : List ℕ) (sums : Sums T m columns z a kb 0 s) (sums' : Sums T m columns z b (kb + 1) 0 s')
-    (one : Groups z 1 (allRows s z m) a (kb * z) b) (next : Groups z (m - 1) (rowsAbove s' z) b ((kb + 1) * z) c) where
+-- the staircase's columns laid
+module _ (T : List ℕ) (kb m rows columns z : ℕ) (a b c s s' : List ℕ) (some : 0 < z) (tall : m ≤ rows) (sums : Sums T rows columns z a kb 0 s)
+    (sums' : Sums T rows columns z b (kb + 1) 0 s') (one : Groups z 1 (allRows s z m) a (kb * z) b)
+    (next : Groups z (m - 1) (rowsAbove s' z) b ((kb + 1) * z) c) where
   step : (kb + 1) * z ≡ kb * z + z
   step = ap (λ (x : ℕ). x * z) (add-one kb) ∙ suc-mul kb z
-
-  wider : (p : ℕ) → p < suc kb * z → getD c p 0 ≡ getD b p 0
-  wider p l = next .below p (omega (arith, step, suc-mul kb z))
 
   front : (p : ℕ) → p < kb * z → getD c p 0 ≡ getD a p 0
   front p l = next .below p (omega (arith, step)) ∙ one .below p l
 
-  first-at : (u : ℕ) → u < z → getD c (kb * z + u) 0 ≡ stack T columns z a kb m u % 2
+  first-at : (u : ℕ) → u < z → getD c ((kb + 0) * z + u) 0 ≡ down s z m u % 2
   unfolding allRows
   first-at u low =
-      next .below (kb * z + u) (omega (arith, step))
+      ap (λ (x : ℕ). getD c (x * z + u) 0) (add-zero kb)
+      ∙ next .below (kb * z + u) (omega (arith, step))
       ∙ ap (λ (x : ℕ). getD b (x + u) 0) (sym (ap (λ (x : ℕ). kb * z + x) (zero-mul z) ∙ add-zero (kb * z)))
-      ∙ one .inside 0 u (omega arith) low ∙ down-stack T m columns z a kb s sums m (omega arith) u low
+      ∙ one .inside 0 u (omega arith) low
 
-  next-at : (n u : ℕ) → suc n < m → u < z → getD c ((kb + suc n) * z + u) 0 ≡ stack T columns z b (suc kb) (suc n) u % 2
+  next-at : (n u : ℕ) → suc n < m → u < z → getD c ((kb + suc n) * z + u) 0 ≡ down s' z (suc n) u % 2
   unfolding rowsAbove
   next-at n u l low =
       let e : kb + suc n ≡ kb + 1 + n = omega arith in
       ap (λ (x : ℕ). getD c (x + u) 0) (ap (λ (x : ℕ). x * z) e ∙ add-mul (kb + 1) n z) ∙ next .inside n u (omega arith) low
-      ∙ down-stack T m columns z b (kb + 1) s' sums' (suc n) (omega arith) u low
-      ∙ ap (λ (x : ℕ). stack T columns z b x (suc n) u % 2) (add-one kb)
 
-  pub laid-solution : columns ≡ kb + m → length a ≡ columns * z → Solution T kb m columns z a c
-  laid-solution wide e = sums-solution T kb m columns z a b c front wider first-at next-at wide (next .len ∙ one .len ∙ e)
+  column-at : (n u : ℕ) → n < m → u < z → getD c ((kb + n) * z + u) 0 ≡ due T kb m columns z c n u % 2
+  column-at zero u l low =
+      first-at u low ∙ down-stack T rows columns z a kb s sums m tall u low
+      ∙ ap (λ (x : ℕ). x % 2)
+      (stack-same T columns z a c kb some (λ p o. same-bit a c p (sym (front p o))) m u ∙ sym (due-first T kb m columns z c u))
+  column-at (suc n) u l low =
+      next-at n u l low ∙ down-stack T rows columns z b (kb + 1) s' sums' (suc n) (omega arith) u low
+      ∙ ap (λ (x : ℕ). x % 2)
+      (stack-same T columns z b c (kb + 1) some (λ p o. same-bit b c p (sym (next .below p o))) (suc n) u
+      ∙ ap (λ (x : ℕ). stack T columns z c x (suc n) u) (add-one kb) ∙ sym (due-next T kb m columns z c (suc n) u (omega arith) l))
+
+  pub laid-begun : length a ≡ columns * z → Begun T kb m columns z a m c
+  laid-begun e = record { size = next .len ∙ one .len ∙ e; front = front; laid = column-at }
+
+  pub laid-sums : Sums T rows columns z c (kb + 1) 0 s'
+  laid-sums = sums-word T rows columns z b c some (λ p l. same-bit b c p (sym (next .below p l))) sums'
+
+-- ---- past the staircase
+
+-- a column laid: the same before it
+pub own-same : (w w' : List ℕ) {z at : ℕ} {f : ℕ → ℕ} → Run z f w at w' → (p : ℕ) → p < at → lowBit w p ≡ lowBit w' p
+own-same w w' r p l = same-bit w w' p (sym (r .below p l))
+
+module _ (T : List ℕ) (kb m rows columns z : ℕ) (w w' s : List ℕ) (some : 0 < z) where
+  own-at : (n : ℕ) → 0 < m → m ≤ n → n < rows → Sums T rows columns z w (kb + n) 0 s → Run z (copied s (n * z)) w ((kb + n) * z) w'
+      → (u : ℕ) → u < z → getD w' ((kb + n) * z + u) 0 ≡ due T kb m columns z w' n u % 2
+  unfolding copied lowBit
+  own-at n rowed h l sums r u low =
+      let d : due T kb m columns z w' n u ≡ rowPart T columns z w (kb + n) n u =
+      due-later T kb m columns z w' n u rowed h ∙ sym (part-same T columns z w w' (kb + n) some (own-same w w' r) n u) in
+      omega (arith, r .inside u low, sums .left n u (omega arith) l low, d)
+
+  pub begun-more : {n : ℕ} {sys : List ℕ} → 0 < m → m ≤ n → n < rows → Begun T kb m columns z sys n w → Sums T rows columns z w (kb + n) 0 s
+      → Run z (copied s (n * z)) w ((kb + n) * z) w' → Begun T kb m columns z sys (n + 1) w'
+  begun-more {n} {sys} rowed h l b sums r =
+      record {
+        size = r .len ∙ b .size;
+        front = λ p o. r .below p (omega (arith, mul-le-mul-right {m = kb} {n = kb + n} z (omega arith))) ∙ b .front p o;
+        laid = λ j u o low.
+            last-or j n (omega arith)
+            (λ q.
+            let before : (kb + j) * z ≤ (kb + n) * z = mul-le-mul-right z (omega arith) in
+            r .below ((kb + j) * z + u) (digits-lt {q = kb + j} {m = kb + n} (omega arith) low) ∙ b .laid j u q low
+            ∙ ap (λ (x : ℕ). x % 2) (due-same T kb m columns z w w' j u low (λ p v. own-same w w' r p (omega arith))))
+            (λ q.
+            ap (λ (x : ℕ). getD w' ((kb + x) * z + u) 0) q ∙ own-at n rowed h l sums r u low
+            ∙ ap (λ (x : ℕ). due T kb m columns z w' x u % 2) (sym q));
+      }
+
+-- what is begun from a word that was begun from the places is begun from the places
+pub begun-on : {T : List ℕ} {kb m columns z j k : ℕ} {sys v w : List ℕ} → Begun T kb m columns z sys j v → Begun T kb m columns z v k w
+    → Begun T kb m columns z sys k w
+begun-on a b = record { size = b .size; front = λ p l. b .front p l ∙ a .front p l; laid = b .laid }
+
+-- from the word itself
+pub begun-self : {T : List ℕ} {kb m columns z k : ℕ} {sys w : List ℕ} → Begun T kb m columns z sys k w → Begun T kb m columns z w k w
+begun-self b = record { size = b .size; front = λ p l. refl; laid = b .laid }
+
+pub begun-all : {T : List ℕ} {kb m columns z k n : ℕ} {sys w : List ℕ} → k ≤ n → n ≤ k → Begun T kb m columns z sys k w → Begun T kb m columns z sys n w
+begun-all {T} {kb} {m} {columns} {z} {sys = sys} {w} h l b = subst (λ (x : ℕ). Begun T kb m columns z sys x w) (le-antisymm h l) b

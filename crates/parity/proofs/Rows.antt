@@ -1,8 +1,9 @@
--- What a row of a staircase table sums to: its first kb + 1 columns, and two places of the stairs.
+-- What a row of a staircase table sums to: a staircase row to its first kb + 1 columns and two places of the stairs, a row past the staircase to the columns
+-- before its own and its own bit.
 use mathlib.Core.Path.{_≡_, refl, sym, ap, ap₂, _∙_}
 use mathlib.Core.Bool.{cond}
 use mathlib.Core.List.{List}
-use Prim.Native.Nat.{ℕ, zero, suc, _+_, _*_, _%_, _≤_, _<_}
+use Prim.Native.Nat.{ℕ, zero, suc, _+_, _-_, _*_, _%_, _≤_, _<_}
 use native.Mathlib.Nat.{add-zero, zero-add, mod-eq-of-lt, mod-lt}
 use native.Mathlib.Omega.{arith}
 use lib.Arith.{digits-lt}
@@ -11,9 +12,10 @@ use lib.ListN.{getD}
 use borrow.Author.Tests.{lt-ltb, le-ltb}
 use Rattle.bits.specs.Ranges.{sumBelow}
 use Rattle.bits.proofs.Ranges.{last-or}
-use Rattle.bits.proofs.Sums.{sum-more, sum-join, sum-same, sum-add, sum-one, sum-two}
+use Rattle.bits.proofs.Sums.{sum-more, sum-join, sum-same, sum-add, sum-zero, sum-one, sum-two}
 use Rattle.profile.specs.Record.{entry}
 use Rattle.profile.proofs.Stairs.{Staircase}
+use Rattle.profile.proofs.Extension.{Extended}
 use Rattle.parity.specs.steps.Grouped.{lowBit, entryBit, term, rowPart, stack}
 use Rattle.parity.proofs.Spread.{entry-bit-empty}
 
@@ -101,10 +103,10 @@ module _ (T : List ℕ) (kb m columns z : ℕ) (w : List ℕ) (S : Staircase T k
       ∙ on (suc i) i (S .lower i h) h ∙ sym (add-zero _)
       ∙ ap (λ (x : ℕ). edge w kb m z u (suc i) + x) (sym (edge-out w kb m z u (suc (suc i)) (omega arith))))
 
-  pub row-shape : (i : ℕ) → i < m
+  stairs-shape : (i : ℕ) → i < m
       → rowPart T columns z w (kb + m) i u ≡ rowPart T columns z w (suc kb) i u + (edge w kb m z u i + edge w kb m z u (suc i))
   unfolding rowPart
-  row-shape = by-rows m refl
+  stairs-shape = by-rows m refl
     where
       by-rows : (n : ℕ) → n ≡ m → (i : ℕ) → i < m
           → sumBelow (kb + m) (at i) ≡ sumBelow (suc kb) (at i) + (edge w kb m z u i + edge w kb m z u (suc i))
@@ -126,3 +128,42 @@ module _ (T : List ℕ) (kb m columns z : ℕ) (w : List ℕ) (S : Staircase T k
       (λ k l d g. entry-bit-empty z w _ (kb * z) u (S .others k (omega arith) (omega arith) g))
       ∙ ap (λ (x : ℕ). at 0 kb + x) (entry-bit-zero z w _ (kb * z) u (S .inner) low))
       (ap (λ (s : ℕ). entryBit z w s (kb * z) u) (S .outer n e))
+
+-- ---- over all columns: what lies past the staircase
+
+-- terms that are 0 from n on
+sum-ends : (n d : ℕ) (f : ℕ → ℕ) → ((k : ℕ) → k < d → f (n + k) ≡ 0) → sumBelow (n + d) f ≡ sumBelow n f
+sum-ends n d f h = sum-join n d f ∙ omega (arith, sum-zero d (λ k. f (n + k)) h)
+
+-- a table whose first m rows are the staircase's, with a column past kb for each row
+pub record Solvable (T : List ℕ) (kb m rows columns : ℕ) : Type 0 where
+  pub tall : m ≤ rows
+  pub wide : columns ≡ kb + rows
+  pub stairs : Staircase T kb m columns
+  pub extension : Extended T kb m rows columns
+
+module _ (T : List ℕ) (kb m rows columns z : ℕ) (w : List ℕ) (S : Solvable T kb m rows columns) (u : ℕ) (low : u < z) where
+  -- row i over the columns behind kb + n, where n is past the staircase and past row i
+  ends : (i n : ℕ) → i < n → m ≤ n → n ≤ rows → rowPart T columns z w columns i u ≡ rowPart T columns z w (kb + n) i u
+  unfolding rowPart term
+  ends i n h l o =
+      let e : columns ≡ kb + n + (rows - n) = omega (arith, S .wide) in
+      ap (λ (c : ℕ). sumBelow c (term T columns z w i u)) e
+      ∙ sum-ends (kb + n) (rows - n) (term T columns z w i u)
+      (λ k b.
+      let q : kb + (n + k) ≡ kb + n + k = omega arith in
+      entry-bit-empty z w _ ((kb + n + k) * z) u
+      (ap (entry T columns i) (sym q) ∙ S .extension .before i (n + k) (omega arith) (omega arith) (omega arith)))
+
+  pub row-shape : (i : ℕ) → i < m
+      → rowPart T columns z w columns i u ≡ rowPart T columns z w (suc kb) i u + (edge w kb m z u i + edge w kb m z u (suc i))
+  row-shape i h = ends i m h (omega arith) (S .tall) ∙ stairs-shape T kb m columns z w (S .stairs) u low i h
+
+  pub row-later : (n : ℕ) → m ≤ n → n < rows
+      → rowPart T columns z w columns n u ≡ rowPart T columns z w (kb + n) n u + lowBit w ((kb + n) * z + u)
+  unfolding rowPart term sumBelow
+  row-later n h l =
+      let e : kb + suc n ≡ suc (kb + n) = omega arith in
+      ends n (suc n) (omega arith) (omega arith) l
+      ∙ ap (λ (c : ℕ). sumBelow c (term T columns z w n u)) e
+      ∙ ap (λ (b : ℕ). sumBelow (kb + n) (term T columns z w n u) + b) (entry-bit-zero z w _ ((kb + n) * z) u (S .extension .own n h l) low)

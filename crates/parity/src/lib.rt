@@ -1,4 +1,5 @@
 // The parity check of section 5.1.3.2: coding one block of places; checking a word, where it is asked for by the crates above.
+mod extension;
 mod gate;
 pub mod inner;
 mod run;
@@ -22,14 +23,15 @@ fn code_in(profile: &[u8], z: usize, places: &[u8], word: &mut [u8])
 {
     let kb = profile::inner::kb(profile);
     let m = profile::inner::m(profile);
+    let rows = profile::inner::rows(profile);
     let columns = profile::inner::columns(profile);
     let index = profile::inner::index_of(profile, z);
     let table = profile::inner::table(profile, index);
     run::copy(word, places);
-    inner::code(table, kb, m, columns, z, word);
+    inner::code(table, kb, m, rows, columns, z, word);
 }
 
-// Codes one block of places, 0, 1 and the filler mark 2: its (kb+m)·z octets go to the front of out (document 01, step 4).
+// Codes one block of places, 0, 1 and the filler mark 2: its (kb+m+x)·z octets go to the front of out (document 01, step 4; document 02, CR 3).
 pub fn code_block(profile: &[u8], z: usize, places: &[u8], out: &mut [u8]) -> Written
     ensures { λ r. ⌜ BlockCoded (now (profile .entry)) z (now (places .entry)) (now (out .entry)) r (now (out .exit)) ⌝ }
 {

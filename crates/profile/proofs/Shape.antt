@@ -1,6 +1,6 @@
 -- What the tests of a record's header, sizes, offsets, end and entries say, and that the code's order of them is the definition's.
-use mathlib.Core.Path.{_≡_, refl, sym, ap}
-use mathlib.Core.Bool.{Bool, true, false, _&&_}
+use mathlib.Core.Path.{_≡_, refl, sym, ap, _∙_}
+use mathlib.Core.Bool.{Bool, true, false, _&&_, _||_}
 use mathlib.Core.List.{List}
 use Prim.Native.Nat.{ℕ, zero, suc, _+_, _-_, _*_, _≤_, _<_}
 use native.Mathlib.Nat.{suc-mul, mul-le-mul-right}
@@ -8,12 +8,12 @@ use native.Mathlib.Numerals.{sub-one}
 use native.Mathlib.Omega.{arith}
 use lib.Dec.{eqb, leb, ltb}
 use lib.ListN.{length, getD, List·getD-eq-default}
-use borrow.Author.Tests.{ltb-true, leb-true, eqb-true, lt-ltb, le-ltb, le-leb, eq-eqb, ne-eqb}
+use borrow.Author.Tests.{ltb-true, leb-true, eqb-true, lt-ltb, le-ltb, le-leb, lt-leb, eq-eqb, ne-eqb}
 use Rattle.bits.specs.Ranges.{allBelow, within}
 use Rattle.bits.proofs.Ranges.{last-or, below-or, both, all-at, all-of, within-is, either-way}
 use Rattle.bits.proofs.Lists.{length-part}
-use Rattle.profile.specs.Record.{kb, m, t, z, offset, rows, columns, tableSize, table, empty, headerRight, rises, sizesRight, offsetDue, offsetsRight, endsRight, shiftRight, tableRight, wellFormed}
-use Rattle.profile.specs.steps.Shape.{frontRight, sizeRight, shapeRight, Sized}
+use Rattle.profile.specs.Record.{kb, m, x, kind, t, z, offset, rows, columns, tableSize, table, empty, kindRight, headerRight, rises, sizesRight, offsetDue, offsetsRight, endsRight, shiftRight, tableRight, wellFormed}
+use Rattle.profile.specs.steps.Shape.{rangesRight, kindFits, frontRight, sizeRight, shapeRight, Whole}
 
 -- ---- a test is the one that is asked for, however it is written
 
@@ -28,7 +28,7 @@ less-test false x y f g = sym (le-ltb x y (g refl))
 -- ---- a table's rows and columns
 
 module _ (R : List ℕ) where
-  pub rows-is : rows R ≡ m R
+  pub rows-is : rows R ≡ m R + x R
   unfolding rows
   rows-is = refl
 
@@ -43,40 +43,117 @@ module _ (R : List ℕ) where
 -- ---- the header
 
 pub record Header (R : List ℕ) : Type 0 where
-  pub long : 6 ≤ length R
+  pub long : 10 ≤ length R
   pub kb-low : 1 ≤ kb R
   pub kb-high : kb R ≤ 20
   pub m-low : 3 ≤ m R
   pub m-high : m R ≤ 12
+  pub x-high : x R ≤ 37
+  pub kind-low : 1 ≤ kind R
+  pub kind-high : kind R ≤ 2
+  pub plain : kind R ≡ 1 → x R ≡ 0
   pub t-low : 1 ≤ t R
   pub t-high : t R ≤ 3
   pub rows-low : 3 ≤ rows R
-  pub rows-high : rows R ≤ 12
+  pub rows-high : rows R ≤ 40
   pub columns-low : 4 ≤ columns R
-  pub columns-high : columns R ≤ 32
+  pub columns-high : columns R ≤ 60
+
+-- tests may change places, and one that follows from another may be left out
+in-turn : (a b c : Bool) → a && b && c ≡ a && c && b
+in-turn true true true = refl
+in-turn true true false = refl
+in-turn true false true = refl
+in-turn true false false = refl
+in-turn false b c = refl
+
+left-out : (a b : Bool) → (b ≡ true → a ≡ true) → a && b ≡ b
+left-out a true f = rw (f refl)
+left-out true false f = refl
+left-out false false f = refl
+
+pub record Ranges (k n s : ℕ) : Type 0 where
+  pub kb-low : 1 ≤ k
+  pub kb-high : k ≤ 20
+  pub m-low : 3 ≤ n
+  pub m-high : n ≤ 12
+  pub t-low : 1 ≤ s
+  pub t-high : s ≤ 3
+
+pub ranges-are : (k n s : ℕ) → rangesRight k n s ≡ true → Ranges k n s
+unfolding rangesRight
+ranges-are k n s e =
+    let two = both (within 1 20 k && within 3 12 n) (within 1 3 s) e in
+    let one = both (within 1 20 k) (within 3 12 n) (two .0) in
+    let a = within-is 1 20 k (one .0) in
+    let b = within-is 3 12 n (one .1) in
+    let c = within-is 1 3 s (two .1) in
+    record { kb-low = a .0; kb-high = a .1; m-low = b .0; m-high = b .1; t-low = c .0; t-high = c .1 }
 
 module _ (R : List ℕ) where
+  kind-is : kindRight R ≡ true → (x R ≤ 37) × (rows R ≤ 40) × (1 ≤ kind R) × (kind R ≤ 2) × (kind R ≡ 1 → x R ≡ 0)
+  unfolding kindRight
+  kind-is e =
+      let three = both (leb (x R) 37 && leb (rows R) 40 && within 1 2 (kind R)) (eqb (kind R) 2 || eqb (x R) 0) e in
+      let two = both (leb (x R) 37 && leb (rows R) 40) (within 1 2 (kind R)) (three .0) in
+      let one = both (leb (x R) 37) (leb (rows R) 40) (two .0) in
+      let range = within-is 1 2 (kind R) (two .1) in (
+        leb-true (x R) 37 (one .0),
+        leb-true (rows R) 40 (one .1),
+        range .0,
+        range .1,
+        λ q. eqb-true (x R) 0 (rw (ne-eqb (kind R) 2 (λ d. omega arith)) at (three .1)),
+      )
+
+  -- from 3 rows of the staircase on, 40 rows leave 37 for the extension
+  kind-fits : 3 ≤ m R → kindRight R ≡ kindFits (m R) (x R) (kind R)
+  unfolding kindRight kindFits rows
+  kind-fits low =
+      let few : leb (m R + x R) 40 ≡ true → leb (x R) 37 ≡ true = λ e. le-leb (x R) 37 (omega (arith, leb-true (m R + x R) 40 e)) in
+      ap (λ (b : Bool). b && within 1 2 (kind R) && (eqb (kind R) 2 || eqb (x R) 0)) (left-out (leb (x R) 37) (leb (m R + x R) 40) few)
+
+  header-in-turn : headerRight R ≡ rangesRight (kb R) (m R) (t R) && kindRight R
+  unfolding headerRight rangesRight
+  header-in-turn = in-turn (within 1 20 (kb R) && within 3 12 (m R)) (kindRight R) (within 1 3 (t R))
+
+  -- the code's three tests of the header, in their order
+  pub front-first : length R < 10 → false ≡ frontRight R
+  unfolding frontRight
+  front-first l = rw (lt-leb 10 (length R) l)
+
+  pub front-second : 10 ≤ length R → rangesRight (kb R) (m R) (t R) ≡ false → false ≡ frontRight R
+  unfolding frontRight
+  front-second l a = rw (le-leb 10 (length R) l, header-in-turn, a)
+
+  pub front-third : 10 ≤ length R → rangesRight (kb R) (m R) (t R) ≡ true
+      → (r : Bool) → r ≡ kindFits (m R) (x R) (kind R) → r ≡ frontRight R
+  unfolding frontRight
+  front-third l a r e =
+      rw (le-leb 10 (length R) l, header-in-turn, a, kind-fits (ranges-are (kb R) (m R) (t R) a .m-low)) e
+
   pub header-is : frontRight R ≡ true → Header R
-  unfolding frontRight headerRight
+  unfolding frontRight
   header-is e =
-      let there = both (leb 6 (length R)) (headerRight R) e in
-      let two = both (within 1 20 (kb R) && within 3 12 (m R)) (within 1 3 (t R)) (there .1) in
-      let one = both (within 1 20 (kb R)) (within 3 12 (m R)) (two .0) in
-      let k = within-is 1 20 (kb R) (one .0) in
-      let r = within-is 3 12 (m R) (one .1) in
-      let n = within-is 1 3 (t R) (two .1) in
+      let there = both (leb 10 (length R)) (headerRight R) e in
+      let two = both (rangesRight (kb R) (m R) (t R)) (kindRight R) (sym header-in-turn ∙ there .1) in
+      let n = ranges-are (kb R) (m R) (t R) (two .0) in
+      let k = kind-is (two .1) in
       record {
-        long = leb-true 6 (length R) (there .0);
-        kb-low = k .0;
-        kb-high = k .1;
-        m-low = r .0;
-        m-high = r .1;
-        t-low = n .0;
-        t-high = n .1;
-        rows-low = omega (arith, r, rows-is R);
-        rows-high = omega (arith, r, rows-is R);
-        columns-low = omega (arith, k, r, rows-is R, columns-is R);
-        columns-high = omega (arith, k, r, rows-is R, columns-is R);
+        long = leb-true 10 (length R) (there .0);
+        kb-low = n .kb-low;
+        kb-high = n .kb-high;
+        m-low = n .m-low;
+        m-high = n .m-high;
+        x-high = k .0;
+        kind-low = k .2;
+        kind-high = k .3;
+        plain = k .4;
+        t-low = n .t-low;
+        t-high = n .t-high;
+        rows-low = omega (arith, n .m-low, rows-is R);
+        rows-high = k .1;
+        columns-low = omega (arith, n .kb-low, n .m-low, rows-is R, columns-is R);
+        columns-high = omega (arith, n .kb-high, k .1, columns-is R);
       }
 
   -- ---- the length and the sizes
@@ -87,11 +164,11 @@ module _ (R : List ℕ) where
   rises-later (suc i) n = rw sub-one
 
   -- the record ends with the last table, so every pair is there
-  pub ends : endsRight R ≡ true → length R ≡ 6 + 4 * t R + t R * tableSize R
+  pub ends : endsRight R ≡ true → length R ≡ 10 + 4 * t R + t R * tableSize R
   unfolding endsRight offsetDue
   ends e = eqb-true (length R) (offsetDue R (t R)) e
 
-  pub pair-there : endsRight R ≡ true → (i : ℕ) → i < t R → 10 + 4 * i ≤ length R
+  pub pair-there : endsRight R ≡ true → (i : ℕ) → i < t R → 14 + 4 * i ≤ length R
   pair-there e i l = omega (arith, ends e)
 
   -- the code's three tests of a size, and its three of the shape, in their order
@@ -139,7 +216,7 @@ module _ (R : List ℕ) where
 pub record Shape (R : List ℕ) : Type 0 where
   pub right : frontRight R ≡ true
   pub header : Header R
-  pub pair : (i : ℕ) → i < t R → 10 + 4 * i ≤ length R
+  pub pair : (i : ℕ) → i < t R → 14 + 4 * i ≤ length R
   pub size : (i : ℕ) → i < t R → Size R i
   pub inside : (i : ℕ) → i < t R → offset R i + tableSize R ≤ length R
 
@@ -169,14 +246,15 @@ module _ (R : List ℕ) where
     unfolding table
     table-long i l = length-part (tableSize R) (offset R i) R (s .inside i l)
 
-    pub table-sized : (i : ℕ) → i < t R → Sized (table R i) (kb R) (m R) (columns R)
-    table-sized i l =
+    pub table-whole : (i : ℕ) → i < t R → Whole (table R i) (kb R) (m R) (x R) (columns R)
+    table-whole i l =
         record {
-          size = omega (arith, table-long i l, area-is R, ap (λ (n : ℕ). n * columns R) (rows-is R));
-          wide = omega (arith, columns-is R, rows-is R);
-          columns-high = s .header .columns-high;
+          size = table-long i l ∙ area-is R ∙ ap (λ (n : ℕ). n * columns R) (rows-is R);
+          columns-are = columns-is R ∙ ap (λ (n : ℕ). kb R + n) (rows-is R);
+          kb-high = s .header .kb-high;
           m-low = s .header .m-low;
           m-high = s .header .m-high;
+          rows-high = omega (arith, s .header .rows-high, rows-is R);
         }
 
     -- strictly rising, from one to the next and so from each to every later one
@@ -189,7 +267,7 @@ module _ (R : List ℕ) where
     rise i (suc j) l h =
         last-or i j l (λ o. omega (arith, rise i j o (omega arith), rise-one j h)) (λ e. rw e (rise-one j h))
 
--- ---- the code's order is the definition's: that the first six octets are there follows from where the record ends
+-- ---- the code's order is the definition's: that the first ten octets are there follows from where the record ends
 
 module _ (R : List ℕ) where
   abbrev sized : ℕ → Bool
@@ -204,7 +282,7 @@ module _ (R : List ℕ) where
       let three = both (headerRight R && sizesRight R && offsetsRight R) (endsRight R) e in
       let two = both (headerRight R && sizesRight R) (offsetsRight R) (three .0) in
       let one = both (headerRight R) (sizesRight R) (two .0) in
-      let long = le-leb 6 (length R) (omega (arith, ends R (three .1))) in
+      let long = le-leb 10 (length R) (omega (arith, ends R (three .1))) in
       let each : (i : ℕ) → i < t R → sizeRight R i ≡ true =
       λ i l. rw (all-at (t R) sized (one .1) i l) (all-at (t R) placed (two .1) i l) in
       rw (long, one .0, three .1) (all-of (t R) (sizeRight R) each)
@@ -214,7 +292,7 @@ module _ (R : List ℕ) where
   unshaped e =
       let two = both (frontRight R && endsRight R) (allBelow (t R) (sizeRight R)) e in
       let one = both (frontRight R) (endsRight R) (two .0) in
-      let header = both (leb 6 (length R)) (headerRight R) (one .0) in
+      let header = both (leb 10 (length R)) (headerRight R) (one .0) in
       let parts : (i : ℕ) → i < t R → (sized i ≡ true) × (placed i ≡ true) =
       λ i l. both (sized i) (placed i) (all-at (t R) (sizeRight R) (two .1) i l) in
       let sizes : sizesRight R ≡ true = all-of (t R) sized (λ i l. parts i l .0) in

@@ -1,10 +1,11 @@
--- The staircase (document 01, "Shelf and profile records"), column by column: col gives what a column holds in each of its m rows.
+-- The staircase (document 01, "Shelf and profile records") and its extension (document 02, CR 3), column by column: col gives what a column holds in each
+-- of its rows. "The staircase rule now speaks of the first m rows only."
 use mathlib.Core.Bool.{Bool, cond, not, _&&_, _||_}
 use mathlib.Core.List.{List}
 use Prim.Native.Nat.{ℕ, suc, _+_, _-_}
-use lib.Dec.{eqb}
+use lib.Dec.{eqb, leb}
 use Rattle.bits.specs.Ranges.{sumBelow, allBelow}
-use Rattle.profile.specs.Record.{kb, m, t, columns, table, entry, empty}
+use Rattle.profile.specs.Record.{kb, m, x, t, columns, table, entry, empty}
 
 unfoldable pub filled : ℕ → Bool
 filled e = not (eqb e empty)
@@ -35,6 +36,20 @@ staircase T kb' m' columns' =
     firstColumn m' (λ row. entry T columns' row kb')
     && allBelow (m' - 1) (λ i. nextColumn m' (suc i) (λ row. entry T columns' row (kb' + suc i)))
 
--- "in each table"
+-- "staircase rows are empty in all extension columns"
+unfoldable pub rowEnds : List ℕ → ℕ → ℕ → ℕ → ℕ → ℕ → Bool
+rowEnds T kb' m' x' columns' row = allBelow x' (λ j. eqb (entry T columns' row (kb' + (m' + j))) empty)
+
+-- "In extension row m+i, column kb+m+i holds 0, later columns are empty, earlier ones are free"
+unfoldable pub extensionRow : List ℕ → ℕ → ℕ → ℕ → ℕ → ℕ → Bool
+extensionRow T kb' m' x' columns' i =
+    eqb (entry T columns' (m' + i) (kb' + (m' + i))) 0
+    && allBelow x' (λ j. leb j i || eqb (entry T columns' (m' + i) (kb' + (m' + j))) empty)
+
+-- "After the m staircase rows come x extension rows"
+unfoldable pub extended : List ℕ → ℕ → ℕ → ℕ → ℕ → Bool
+extended T kb' m' x' columns' = allBelow m' (rowEnds T kb' m' x' columns') && allBelow x' (extensionRow T kb' m' x' columns')
+
+-- "in each table"; 6 also "for a bad extension"
 unfoldable pub staircases : List ℕ → Bool
-staircases R = allBelow (t R) (λ i. staircase (table R i) (kb R) (m R) (columns R))
+staircases R = allBelow (t R) (λ i. staircase (table R i) (kb R) (m R) (columns R) && extended (table R i) (kb R) (m R) (x R) (columns R))

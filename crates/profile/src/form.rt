@@ -1,16 +1,16 @@
-// Whether a profile record is well formed (document 01, "Shelf and profile records"), tested from the front, so that what is read is there.
+// Whether a profile record is well formed (document 01, "Shelf and profile records"; document 02, CR 3), tested from the front, so that what is read is there.
 use crate::inner::EMPTY;
 use crate::parts;
 ghost use mathlib.Core.Path.{_≡_};
-ghost use mathlib.Core.Bool.{true, _&&_};
+ghost use mathlib.Core.Bool.{true};
 ghost use Prim.Native.Nat.{_+_, _*_, _≤_, _<_};
 ghost use lib.ListN.{length, getD};
-ghost use Rattle.bits.specs.Ranges.{allBelow, within};
+ghost use Rattle.bits.specs.Ranges.{allBelow};
 ghost use Rattle.profile.specs.Record.{t, rises, endsRight, shiftRight, tableRight};
-ghost use Rattle.profile.specs.steps.Shape.{frontRight, sizeRight, shapeRight};
+ghost use Rattle.profile.specs.steps.Shape.{rangesRight, kindFits, frontRight, sizeRight, shapeRight};
 
 fn ranges_right(kb: usize, m: usize, t: usize) -> bool
-    ensures { λ r. ⌜ r ≡ (within 1 20 kb && within 3 12 m && within 1 3 t) ⌝ }
+    ensures { λ r. ⌜ r ≡ rangesRight kb m t ⌝ }
 {
     if !bits::inner::is_within(1, 20, kb) {
         return false;
@@ -21,13 +21,35 @@ fn ranges_right(kb: usize, m: usize, t: usize) -> bool
     bits::inner::is_within(1, 3, t)
 }
 
+// The type and the rows of the extension. That x is at most 37 follows from m.
+fn kind_right(m: usize, x: usize, kind: usize) -> bool
+    requires { ⌜ (m ≤ 12) × (x < 65536) ⌝ }
+    ensures { λ r. ⌜ r ≡ kindFits m x kind ⌝ }
+{
+    let rows = m + x;
+    if 40 < rows {
+        return false;
+    }
+    if !bits::inner::is_within(1, 2, kind) {
+        return false;
+    }
+    if kind == 2 {
+        return true;
+    }
+    x == 0
+}
+
 fn header_right(profile: &[u8]) -> bool
     ensures { λ r. ⌜ r ≡ frontRight (now (profile .entry)) ⌝ }
 {
-    if profile.len() < 6 {
+    if profile.len() < 10 {
         return false;
     }
-    ranges_right(parts::kb(profile), parts::m(profile), parts::t(profile))
+    let m = parts::m(profile);
+    if !ranges_right(parts::kb(profile), m, parts::t(profile)) {
+        return false;
+    }
+    kind_right(m, parts::x(profile), parts::kind(profile))
 }
 
 fn ends_right(profile: &[u8]) -> bool
@@ -39,7 +61,7 @@ fn ends_right(profile: &[u8]) -> bool
 }
 
 fn is_rising(profile: &[u8], i: usize) -> bool
-    requires { ⌜ 10 + 4 * i ≤ length (now profile) ⌝ }
+    requires { ⌜ 14 + 4 * i ≤ length (now profile) ⌝ }
     ensures { λ r. ⌜ r ≡ rises (now (profile .entry)) i ⌝ }
 {
     if i == 0 {
@@ -51,7 +73,7 @@ fn is_rising(profile: &[u8], i: usize) -> bool
 }
 
 fn size_right(profile: &[u8], i: usize) -> bool
-    requires { ⌜ (frontRight (now profile) ≡ true) × (10 + 4 * i ≤ length (now profile)) × (i ≤ 3) ⌝ }
+    requires { ⌜ (frontRight (now profile) ≡ true) × (14 + 4 * i ≤ length (now profile)) × (i ≤ 3) ⌝ }
     ensures { λ r. ⌜ r ≡ sizeRight (now (profile .entry)) i ⌝ }
 {
     if !bits::inner::is_within(1, 81, parts::z(profile, i)) {

@@ -4,7 +4,7 @@ ghost use mathlib.Core.Path.{_≡_};
 ghost use Prim.Native.Nat.{_≤_, _<_};
 ghost use lib.Dec.{eqb};
 ghost use Rattle.bits.specs.Ranges.{firstBelow};
-ghost use Rattle.profile.specs.Record.{kb, m, t, z, rows, columns, table};
+ghost use Rattle.profile.specs.Record.{kb, m, x, kind, t, z, rows, columns, table};
 ghost use Rattle.profile.specs.Promises.{judged};
 
 // An entry that holds no shift: "255 for empty".
@@ -24,6 +24,22 @@ pub fn m(profile: &[u8]) -> usize
     parts::m(profile)
 }
 
+// How many rows the extension has.
+pub fn x(profile: &[u8]) -> usize
+    requires { ⌜ judged (now profile) ≡ 0 ⌝ }
+    ensures { λ r. ⌜ (r ≡ x (now (profile .entry))) × (r ≤ 37) ⌝ }
+{
+    parts::x(profile)
+}
+
+// The coding type.
+pub fn kind(profile: &[u8]) -> usize
+    requires { ⌜ judged (now profile) ≡ 0 ⌝ }
+    ensures { λ r. ⌜ (r ≡ kind (now (profile .entry))) × (1 ≤ r) × (r ≤ 2) ⌝ }
+{
+    parts::kind(profile)
+}
+
 pub fn t(profile: &[u8]) -> usize
     requires { ⌜ judged (now profile) ≡ 0 ⌝ }
     ensures { λ r. ⌜ (r ≡ t (now (profile .entry))) × (1 ≤ r) × (r ≤ 3) ⌝ }
@@ -41,14 +57,14 @@ pub fn z(profile: &[u8], i: usize) -> usize
 // How many rows and columns each table has.
 pub fn rows(profile: &[u8]) -> usize
     requires { ⌜ judged (now profile) ≡ 0 ⌝ }
-    ensures { λ r. ⌜ (r ≡ rows (now (profile .entry))) × (3 ≤ r) × (r ≤ 12) ⌝ }
+    ensures { λ r. ⌜ (r ≡ rows (now (profile .entry))) × (3 ≤ r) × (r ≤ 40) ⌝ }
 {
     parts::rows(profile)
 }
 
 pub fn columns(profile: &[u8]) -> usize
     requires { ⌜ judged (now profile) ≡ 0 ⌝ }
-    ensures { λ r. ⌜ (r ≡ columns (now (profile .entry))) × (4 ≤ r) × (r ≤ 32) ⌝ }
+    ensures { λ r. ⌜ (r ≡ columns (now (profile .entry))) × (4 ≤ r) × (r ≤ 60) ⌝ }
 {
     parts::columns(profile)
 }

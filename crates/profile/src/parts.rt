@@ -3,64 +3,78 @@ ghost use mathlib.Core.Path.{_≡_};
 ghost use mathlib.Core.Bool.{true};
 ghost use Prim.Native.Nat.{_+_, _*_, _≤_, _<_};
 ghost use lib.ListN.{length};
-ghost use Rattle.profile.specs.Record.{kb, m, t, z, offset, rows, columns, tableSize, offsetDue};
+ghost use Rattle.profile.specs.Record.{kb, m, x, kind, t, z, offset, rows, columns, tableSize, offsetDue};
 ghost use Rattle.profile.specs.steps.Shape.{frontRight, shapeRight, TableAt};
 
-// The header's three numbers.
+// The header's five numbers.
 pub fn kb(profile: &[u8]) -> usize
-    requires { ⌜ 6 ≤ length (now profile) ⌝ }
+    requires { ⌜ 10 ≤ length (now profile) ⌝ }
     ensures { λ r. ⌜ (r ≡ kb (now (profile .entry))) × (r < 65536) ⌝ }
 {
     bits::inner::number_at(profile, 0)
 }
 
 pub fn m(profile: &[u8]) -> usize
-    requires { ⌜ 6 ≤ length (now profile) ⌝ }
+    requires { ⌜ 10 ≤ length (now profile) ⌝ }
     ensures { λ r. ⌜ (r ≡ m (now (profile .entry))) × (r < 65536) ⌝ }
 {
     bits::inner::number_at(profile, 2)
 }
 
-pub fn t(profile: &[u8]) -> usize
-    requires { ⌜ 6 ≤ length (now profile) ⌝ }
-    ensures { λ r. ⌜ (r ≡ t (now (profile .entry))) × (r < 65536) ⌝ }
+pub fn x(profile: &[u8]) -> usize
+    requires { ⌜ 10 ≤ length (now profile) ⌝ }
+    ensures { λ r. ⌜ (r ≡ x (now (profile .entry))) × (r < 65536) ⌝ }
 {
     bits::inner::number_at(profile, 4)
 }
 
+pub fn kind(profile: &[u8]) -> usize
+    requires { ⌜ 10 ≤ length (now profile) ⌝ }
+    ensures { λ r. ⌜ (r ≡ kind (now (profile .entry))) × (r < 65536) ⌝ }
+{
+    bits::inner::number_at(profile, 6)
+}
+
+pub fn t(profile: &[u8]) -> usize
+    requires { ⌜ 10 ≤ length (now profile) ⌝ }
+    ensures { λ r. ⌜ (r ≡ t (now (profile .entry))) × (r < 65536) ⌝ }
+{
+    bits::inner::number_at(profile, 8)
+}
+
 // The pair of a size: its z and its offset.
 pub fn z(profile: &[u8], i: usize) -> usize
-    requires { ⌜ 10 + 4 * i ≤ length (now profile) ⌝ }
+    requires { ⌜ 14 + 4 * i ≤ length (now profile) ⌝ }
     ensures { λ r. ⌜ (r ≡ z (now (profile .entry)) i) × (r < 65536) ⌝ }
 {
-    bits::inner::number_at(profile, 6 + 4 * i)
+    bits::inner::number_at(profile, 10 + 4 * i)
 }
 
 pub fn offset(profile: &[u8], i: usize) -> usize
-    requires { ⌜ 10 + 4 * i ≤ length (now profile) ⌝ }
+    requires { ⌜ 14 + 4 * i ≤ length (now profile) ⌝ }
     ensures { λ r. ⌜ (r ≡ offset (now (profile .entry)) i) × (r < 65536) ⌝ }
 {
-    bits::inner::number_at(profile, 8 + 4 * i)
+    bits::inner::number_at(profile, 12 + 4 * i)
 }
 
 // How many rows and columns a table has, and how many octets.
 pub fn rows(profile: &[u8]) -> usize
     requires { ⌜ frontRight (now profile) ≡ true ⌝ }
-    ensures { λ r. ⌜ (r ≡ rows (now (profile .entry))) × (3 ≤ r) × (r ≤ 12) ⌝ }
+    ensures { λ r. ⌜ (r ≡ rows (now (profile .entry))) × (3 ≤ r) × (r ≤ 40) ⌝ }
 {
-    m(profile)
+    m(profile) + x(profile)
 }
 
 pub fn columns(profile: &[u8]) -> usize
     requires { ⌜ frontRight (now profile) ≡ true ⌝ }
-    ensures { λ r. ⌜ (r ≡ columns (now (profile .entry))) × (4 ≤ r) × (r ≤ 32) ⌝ }
+    ensures { λ r. ⌜ (r ≡ columns (now (profile .entry))) × (4 ≤ r) × (r ≤ 60) ⌝ }
 {
     kb(profile) + rows(profile)
 }
 
 pub fn table_size(profile: &[u8]) -> usize
     requires { ⌜ frontRight (now profile) ≡ true ⌝ }
-    ensures { λ r. ⌜ (r ≡ tableSize (now (profile .entry))) × (r ≤ 384) ⌝ }
+    ensures { λ r. ⌜ (r ≡ tableSize (now (profile .entry))) × (r ≤ 2400) ⌝ }
 {
     rows(profile) * columns(profile)
 }
@@ -70,7 +84,7 @@ pub fn offset_due(profile: &[u8], i: usize) -> usize
     requires { ⌜ (frontRight (now profile) ≡ true) × (i ≤ 3) ⌝ }
     ensures { λ r. ⌜ r ≡ offsetDue (now (profile .entry)) i ⌝ }
 {
-    6 + 4 * t(profile) + i * table_size(profile)
+    10 + 4 * t(profile) + i * table_size(profile)
 }
 
 // A table of a record whose tables can be read.

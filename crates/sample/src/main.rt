@@ -1,4 +1,4 @@
-// Sends octet 01 by the toy profile of document 01 and prints the 128 radio bits as packed octets in one line.
+// Sends octet 01 by the toy profile of document 02, CR 3, and prints the 128 radio bits as packed octets in one line.
 use bits::count::CodedBits;
 use bits::count::Terms;
 use bits::number::DONE;
@@ -40,13 +40,17 @@ fn print_refused(number: u32) {
 
 fn main() {
     let profile =
-        b"\x00\x01\x00\x03\x00\x01\x00\x02\x00\x0a\x00\x01\x00\xff\x01\x00\x00\x00\xff\x01\xff\x00";
+        b"\x00\x01\x00\x03\x00\x00\x00\x01\x00\x01\x00\x02\x00\x0e\x00\x01\x00\xff\x01\x00\x00\x00\xff\x01\xff\x00";
     let block = b"\x01";
     let mut out = [0u8; 128];
     let sent = coding::send(
         profile,
         block,
-        Terms { nl: 1, qm: 2 },
+        Terms {
+            nl: 1,
+            qm: 2,
+            rv: 0,
+        },
         CodedBits(128),
         &mut out,
     );

@@ -19,10 +19,12 @@ fn error(fault: Fault) -> String {
 #[cfg(test)]
 mod tests {
     use super::answer;
+    use crate::kinds::parts::digits;
     use crate::lines::LINE_ROOM;
+    use crate::samples::bits_of_hex;
     use crate::words::BITS_ROOM;
 
-    const TOY: &str = "0001000300010002000A000100FF01000000FF01FF00";
+    const TOY: &str = "000100030000000100010002000E000100FF01000000FF01FF00";
 
     /// The 128 bits of document 01's case P10.
     const P10: &str = "\
@@ -77,10 +79,10 @@ mod tests {
         assert_eq!(answered(&format!("send {TOY} 01 1 2 30 128")), "10 0 -");
         assert_eq!(answered(&format!("recv {TOY} 8 1 2 {P10} 1")), "0 1 01");
         assert_eq!(answered(&format!("recv {TOY} 16 1 2 {P10} 2")), "13 0 -");
-        let shelves = format!("00010001000700{:02x}0016{TOY} 0000", 10);
+        let shelves = format!("00010001000700{:02x}001A{TOY} 0000", 10);
         assert_eq!(
             answered(&format!("lookup {shelves} 1 7")),
-            "0 private 10 22"
+            "0 private 10 26"
         );
         assert_eq!(answered(&format!("lookup {shelves} 2 7")), "4 public 0 0");
         assert_eq!(
@@ -101,8 +103,97 @@ mod tests {
     }
 
     #[test]
+    fn optional_numbers_are_read() {
+        let record = "000100030001000200010003000E000100FFFF02000000FF0101FF00FFFF02FF0100";
+        let bits = "15eafac3f595f59515ea0000e07fef29f59515ea1abc";
+        let send = format!("send {record} A5 1 2 176 176");
+        let first = answered(&send);
+        assert_eq!(answered(&format!("{send} rv=0")), first);
+        assert_eq!(answered(&format!("{send} rv=001")), format!("0 176 {bits}"));
+        for (rv, text) in [
+            ("4", "16 0 -"),
+            ("18446744073709551615", "16 0 -"),
+            ("18446744073709551616", "error number"),
+            ("", "error number"),
+            ("one", "error number"),
+            ("1 rv=1", "error words"),
+            ("1 by=plain", "error words"),
+            ("1 type=2", "error words"),
+        ] {
+            assert_eq!(answered(&format!("{send} rv={rv}")), text, "{rv}");
+        }
+        assert_eq!(
+            answered(&format!("send {record} - 1 2 176 176 rv=4")),
+            "7 0 -"
+        );
+        assert_eq!(
+            answered(&format!("send {record} A5 9 2 176 176 rv=4")),
+            "16 0 -"
+        );
+        assert_eq!(
+            answered(&format!("send {TOY} 01 1 2 128 128 rv=1")),
+            "16 0 -"
+        );
+        // The bits of rv 1 again, one digit each.
+        let digits = digits(&bits_of_hex(bits, 176));
+        let shelves = format!("000100010007000A0022{record} 0000 1 7");
+        for (line, text) in [
+            (format!("recv {record} 8 1 2 {digits} 1"), "14 0 -"),
+            (format!("recv {record} 8 1 2 {digits} 1 rv=1"), "0 1 a5"),
+            (
+                format!("recv {record} 8 1 2 {digits} 1 rv=1 by=plain"),
+                "0 1 a5",
+            ),
+            (
+                format!("recv {record} 8 1 2 {digits} 1 by=plain rv=1"),
+                "0 1 a5",
+            ),
+            (
+                format!("recv {record} 8 1 2 {digits} 1 by=plain rv=2"),
+                "14 0 -",
+            ),
+            (format!("recv {record} 8 9 2 {digits} 1 rv=4"), "16 0 -"),
+            (format!("recv {record} 9 1 2 {digits} 1 rv=4"), "7 0 -"),
+            (format!("hrecv {shelves} 8 1 2 {digits} 1 rv=1"), "0 1 a5"),
+            (format!("hrecv {shelves} 8 1 2 {digits} 1 rv=4"), "16 0 -"),
+            (format!("hsend {shelves} A5 1 2 176 176 rv=4"), "16 0 -"),
+        ] {
+            assert_eq!(answered(&line), text, "{line}");
+        }
+        let hosted = answered(&format!("hsend {shelves} A5 1 2 176 176 rv=1"));
+        assert_eq!(hosted, format!("0 176 {bits}"));
+    }
+
+    #[test]
+    fn rate_has_a_type_and_a_version() {
+        // Places 0 to 7 are 10011100.
+        for (words, text) in [
+            ("", "0 8 9c"),
+            (" type=1", "0 8 9c"),
+            (" type=2", "0 8 9c"),
+            (" rv=0", "0 8 9c"),
+            (" type=2 rv=1", "0 8 72"),
+            (" rv=2 type=2", "0 8 c9"),
+            (" rv=3 type=2", "0 8 27"),
+            (" rv=1", "16 0 -"),
+            (" type=2 rv=4", "16 0 -"),
+            (" type=0", "5 0 -"),
+            (" type=3 rv=4", "5 0 -"),
+            (" type=2 rv=1 rv=1", "error words"),
+            (" by=plain", "error words"),
+            (" type=", "error number"),
+        ] {
+            assert_eq!(
+                answered(&format!("rate 8 10011100 8{words}")),
+                text,
+                "{words}"
+            );
+        }
+    }
+
+    #[test]
     fn either_checker_says_the_same() {
-        let shelves = format!("00010001000700{:02x}0016{TOY} 0000 1 7", 10);
+        let shelves = format!("00010001000700{:02x}001A{TOY} 0000 1 7", 10);
         for (line, answers) in [
             (format!("check {TOY} 2 01111011"), "0 1"),
             (format!("check {TOY} 2 01111010"), "0 0"),

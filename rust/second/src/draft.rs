@@ -12,6 +12,9 @@ pub const EMPTY: u8 = 255;
 pub struct Draft {
     pub kb: u16,
     pub m: u16,
+    pub x: u16,
+    /// The coding type.
+    pub coding: u16,
     pub t: u16,
     pub sizes: Vec<u16>,
     pub offsets: Vec<u16>,
@@ -22,16 +25,23 @@ pub struct Draft {
 pub type Rows = Vec<Vec<u8>>;
 
 impl Draft {
-    /// A record of these tables, each with its z, and with the offsets that are due.
+    /// A record of Type 1 of these tables, each with its z, and with the offsets that are due.
     pub fn new(kb: u16, m: u16, tables: Vec<(u16, Rows)>) -> Draft {
+        Draft::of_type(1, kb, m, 0, tables)
+    }
+
+    /// The same of a type, with x extension rows.
+    pub fn of_type(coding: u16, kb: u16, m: u16, x: u16, tables: Vec<(u16, Rows)>) -> Draft {
         let (sizes, tables): (Vec<u16>, Vec<Rows>) = tables.into_iter().unzip();
         let t = short(tables.len());
         let offsets = (0..t)
-            .map(|place| 6 + 4 * t + place * m * (kb + m))
+            .map(|place| 10 + 4 * t + place * (m + x) * (kb + m + x))
             .collect();
         Draft {
             kb,
             m,
+            x,
+            coding,
             t,
             sizes,
             offsets,
@@ -41,7 +51,7 @@ impl Draft {
 
     pub fn octets(&self) -> Vec<u8> {
         let pairs = self.sizes.iter().zip(&self.offsets);
-        let header = [self.kb, self.m, self.t].into_iter();
+        let header = [self.kb, self.m, self.x, self.coding, self.t].into_iter();
         let numbers = header.chain(pairs.flat_map(|(&z, &offset)| [z, offset]));
         let mut octets: Vec<u8> = numbers.flat_map(u16::to_be_bytes).collect();
         octets.extend(self.tables.iter().flatten().flatten());
@@ -67,6 +77,22 @@ pub fn with_staircase(left: &[Vec<u8>], outer: u8, middle: usize) -> Rows {
             entries.iter().copied().chain(steps).collect()
         })
         .collect()
+}
+
+/// Puts an extension below a staircase and behind it: of each extension row what stands before its 0
+/// (document 02, CR 3).
+pub fn with_extension(staircase: Rows, extension: &[Vec<u8>]) -> Rows {
+    let wide = staircase[0].len() + extension.len();
+    let mut rows = staircase;
+    for before in extension {
+        let mut row = before.clone();
+        row.push(0);
+        rows.push(row);
+    }
+    for row in &mut rows {
+        row.resize(wide, EMPTY);
+    }
+    rows
 }
 
 /// A count or place that is known to be small.

@@ -59,10 +59,13 @@ pub struct Given {
 }
 
 impl Optional {
-    #[allow(dead_code, reason = "no kind of request has an optional number yet")]
     pub const fn number(name: &'static str, default: u64) -> Optional {
         let holds = Holds::Number(default);
         Optional { name, holds }
+    }
+
+    pub fn name(&self) -> &'static str {
+        self.name
     }
 
     /// The first of the alternatives is the default.
@@ -193,7 +196,6 @@ impl Given {
     }
 
     /// The number that the optional word of this name holds.
-    #[allow(dead_code, reason = "no kind of request has an optional number yet")]
     pub fn number_of(&self, name: &str) -> u64 {
         match self.option(name) {
             Value::Number(number) => *number,

@@ -86,9 +86,11 @@ mod tests {
     use crate::kinds::parts;
     use crate::lines::next_line;
     use crate::numbers::Number;
+    use crate::record::Coding;
     use crate::requests::request;
     use crate::shelf::lookup;
     use crate::transfer::{Asked, Transfer};
+    use crate::version::Version;
     use std::collections::{BTreeMap, BTreeSet};
 
     fn generated(kind: Option<&str>, seed: u64, count: u64) -> Vec<u8> {
@@ -175,12 +177,15 @@ mod tests {
             ("encode", &[0, 5, 6, 8, 11, 12]),
             ("check", &[0, 5, 6, 8, 12]),
             ("sums", &[0, 5, 6, 8, 11, 12]),
-            ("rate", &[0, 8, 11, 12]),
-            ("send", &[0, 5, 6, 7, 8, 9, 10, 11]),
-            ("recv", &[0, 5, 6, 7, 8, 9, 10, 11, 12, 13, 14]),
+            ("rate", &[0, 5, 8, 11, 12, 16]),
+            ("send", &[0, 5, 6, 7, 8, 9, 10, 11, 16]),
+            ("recv", &[0, 5, 6, 7, 8, 9, 10, 11, 12, 13, 14, 16]),
             ("lookup", &[0, 1, 2, 3, 4]),
-            ("hsend", &[0, 1, 2, 3, 4, 5, 6, 7, 8, 9, 10, 11]),
-            ("hrecv", &[0, 1, 2, 3, 4, 5, 6, 7, 8, 9, 10, 11, 12, 13, 14]),
+            ("hsend", &[0, 1, 2, 3, 4, 5, 6, 7, 8, 9, 10, 11, 16]),
+            (
+                "hrecv",
+                &[0, 1, 2, 3, 4, 5, 6, 7, 8, 9, 10, 11, 12, 13, 14, 16],
+            ),
             ("hcheck", &[0, 1, 2, 3, 4, 5, 6, 8, 12]),
         ] {
             let (numbers, others) = numbers_of(kind);
@@ -259,10 +264,19 @@ mod tests {
                 layers,
                 order,
                 bits,
+                rv,
                 ..
             } = parts::receiving(&mut given);
             let g = bits.len() as u64;
-            (a, Asked { layers, order, g })
+            (
+                a,
+                Asked {
+                    layers,
+                    order,
+                    g,
+                    rv,
+                },
+            )
         };
         Transfer::new(&record, a, asked).ok()
     }
@@ -293,6 +307,66 @@ mod tests {
                 assert!(all > 500 && 2 * unequal > all, "{name}: {counts:?}");
             }
         }
+    }
+
+    /// How many of the lines that ask for a transfer start inside filler, and how many in each version.
+    fn starts(name: &str, mut input: &[u8]) -> (usize, [usize; 4]) {
+        let (mut inside, mut versions) = (0, [0; 4]);
+        while let Some(line) = next_line(&mut input).unwrap() {
+            let Some(transfer) = transfer(name, &line) else {
+                continue;
+            };
+            let plan = &transfer.plan;
+            let start = transfer.version.start(transfer.profile.columns() * plan.z);
+            let is_inside = |r| (plan.own_bits(r)..plan.k).contains(&start);
+            inside += usize::from((0..plan.c).any(is_inside));
+            let rv = (0..4).position(|rv| Version::new(Coding::Two, rv) == Ok(transfer.version));
+            versions[rv.unwrap_or(0)] += 1;
+        }
+        (inside, versions)
+    }
+
+    #[test]
+    fn every_version_is_asked_for_and_some_start_inside_filler() {
+        for name in ["send", "recv", "hsend", "hrecv"] {
+            let (inside, versions) = starts(name, &generated(Some(name), 4, 2000));
+            assert!(inside > 20, "{name}: {inside}");
+            assert!(
+                versions.iter().all(|&count| count > 100),
+                "{name}: {versions:?}"
+            );
+        }
+    }
+
+    /// The answers to the requests with an rv that no type has.
+    fn answers_over_3(mut input: &[u8]) -> BTreeMap<String, usize> {
+        let mut over = Vec::new();
+        while let Some(line) = next_line(&mut input).unwrap() {
+            let read = request(&line);
+            if read.is_ok_and(|read| read.is_some_and(|(_, given)| given.number_of("rv") > 3)) {
+                over.extend(line);
+                over.push(b'\n');
+            }
+        }
+        answers(&over)
+    }
+
+    #[test]
+    fn pairs_of_faults_show_where_16_stands() {
+        for name in ["send", "recv", "hsend", "hrecv"] {
+            let counts = answers_over_3(&generated(Some(name), 4, 6000));
+            // 5, 6 and 7 go before it, and all that is behind it is never answered.
+            for first in ["5", "6", "7", "16"] {
+                assert!(counts.contains_key(first), "{name}: {counts:?}");
+            }
+            let before = ["1", "2", "3", "4", "5", "6", "7", "16"];
+            assert!(
+                counts.keys().all(|number| before.contains(&&number[..])),
+                "{name}: {counts:?}"
+            );
+        }
+        let counts = answers_over_3(&generated(Some("rate"), 4, 6000));
+        assert_eq!(counts.keys().collect::<Vec<_>>(), ["16", "5"]);
     }
 
     #[test]

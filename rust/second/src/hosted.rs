@@ -25,11 +25,12 @@ pub fn hosted_receive(
     a: u64,
     layers: u64,
     order: u64,
+    rv: u64,
     bits: &[u8],
     output: &mut [u8],
 ) -> Result<usize, Number> {
     let found = lookup(shelves)?;
-    receive(shelves.octets(&found), a, layers, order, bits, output)
+    receive(shelves.octets(&found), a, layers, order, rv, bits, output)
 }
 
 /// Whether a word checks, or 1 to 4, or as checking answers.

@@ -1,5 +1,5 @@
-//! The program `second`: answers requests, writes requests for comparing two implementations, and
-//! makes the shelves of the worked day.
+//! The program `second`: answers requests, writes requests for comparing two implementations, makes the
+//! shelves of the worked day, and rewrites what is stored in an old form.
 
 mod allocation;
 mod answer;
@@ -24,12 +24,14 @@ mod receive;
 mod record;
 mod replay;
 mod requests;
+mod rewrite;
 mod samples;
 mod send;
 mod shelf;
 mod shelves;
 mod tables;
 mod transfer;
+mod version;
 mod words;
 
 use std::io::{self, BufWriter, Write};
@@ -46,13 +48,18 @@ second generate SEED COUNT [KIND]
     KIND, which is the name of a request; the same SEED gives the same lines, an odd one
     leaves off the last newline, and every 1,000th line is a very long one
 second shelves FOLDER [TO]
-    makes public.shelf and private.shelf from public.txt and private.txt in FOLDER, and writes
-    them there or to the folder TO
+    makes public.shelf, private.shelf and trial.shelf from public.txt, private.txt and trial.txt
+    in FOLDER, and writes them there or to the folder TO
 second tables
     reads the text of 5G.212 from standard input and counts the numbers in each row of its LDPC
     tables, as docs/TABLES.md has them
 second public
     reads the same and writes shelves/public.txt
+second trial
+    reads the same and writes shelves/trial.txt
+second rewrite OLD NEW
+    rewrites what is stored with records of the old form, whose header is kb, m, t: OLD is a
+    shelf, or a text of requests; NEW is written whole or not at all
 second help
     writes this
 
@@ -73,6 +80,11 @@ enum Command {
     },
     Tables,
     Public,
+    Trial,
+    Rewrite {
+        old: PathBuf,
+        new: PathBuf,
+    },
     Help,
 }
 
@@ -104,6 +116,11 @@ fn command(arguments: &[String]) -> Option<Command> {
         ["shelves", from, to] => Some(shelves(from, to)),
         ["tables"] => Some(Command::Tables),
         ["public"] => Some(Command::Public),
+        ["trial"] => Some(Command::Trial),
+        ["rewrite", old, new] => Some(Command::Rewrite {
+            old: old.into(),
+            new: new.into(),
+        }),
         ["help"] => Some(Command::Help),
         _ => None,
     }
@@ -134,6 +151,8 @@ fn run(command: &Command) -> io::Result<()> {
         Command::Shelves { from, to } => shelves::make(from, to)?,
         Command::Tables => tables::counts(&io::read_to_string(io::stdin())?, &mut output)?,
         Command::Public => tables::public(&io::read_to_string(io::stdin())?, &mut output)?,
+        Command::Trial => tables::trial(&io::read_to_string(io::stdin())?, &mut output)?,
+        Command::Rewrite { old, new } => eprintln!("{}", rewrite::rewrite(old, new)?),
         Command::Help => output.write_all(HELP.as_bytes())?,
     }
     // A dropped BufWriter would hide a failed write.

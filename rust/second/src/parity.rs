@@ -1,4 +1,4 @@
-//! Codes a block and checks a word by the spread-out matrix (document 01, step 4).
+//! Codes a block and checks a word by the spread-out matrix (document 01, step 4; document 02, CR 3).
 
 use std::ops::Range;
 
@@ -16,7 +16,7 @@ pub fn encode(record: &[u8], z: u64, places: &[u8], output: &mut [u8]) -> Result
     if places.len() != profile.kb * table.z {
         return Err(PARAMETER);
     }
-    let count = (profile.kb + profile.m) * table.z;
+    let count = profile.columns() * table.z;
     if output.len() < count {
         return Err(OUTPUT);
     }
@@ -31,7 +31,7 @@ pub fn encode(record: &[u8], z: u64, places: &[u8], output: &mut [u8]) -> Result
 /// Whether one word of single bits checks, or 5, 6, 8, 12.
 pub fn check(record: &[u8], z: u64, word: &[u8]) -> Result<bool, Number> {
     let matrix = matrix_of(record, z, word)?;
-    // "A word of (kb+m)·z bits checks when every row of the spread-out matrix sums to an even
+    // "a word has (kb+m+x)·z bits", and it "checks when every row of the spread-out matrix sums to an even
     // number over it."
     Ok(row_sums(&matrix, word)?.iter().all(|&sum| sum == 0))
 }
@@ -52,7 +52,7 @@ pub fn sums(record: &[u8], z: u64, word: &[u8], output: &mut [u8]) -> Result<usi
 fn matrix_of(record: &[u8], z: u64, word: &[u8]) -> Result<Matrix, Number> {
     let profile = profile(record)?;
     let table = table(&profile, z)?;
-    let columns = profile.kb + profile.m;
+    let columns = profile.columns();
     if word.len() != columns * table.z {
         return Err(PARAMETER);
     }
@@ -99,15 +99,15 @@ pub struct Code {
 impl Code {
     /// The code of a z that the profile gives.
     pub fn new(profile: &Profile, z: usize) -> Code {
-        let (kb, m) = (profile.kb, profile.m);
+        let kb = profile.kb;
         let table = profile.table(z).expect("the profile gives this z");
         Code {
             systematic: spread_out(table, 0..kb),
-            parity: Equations::new(&spread_out(table, kb..kb + m)),
+            parity: Equations::new(&spread_out(table, kb..profile.columns())),
         }
     }
 
-    /// "The coded block is K systematic places and then m·z parity bits. It must check with filler
+    /// "The coded block is K systematic places and then" (m+x)·z "parity bits. It must check with filler
     /// read as 0. Filler places stay marked." With an accepted profile some parity bits make it
     /// check.
     pub fn coded(&self, places: &[u8]) -> Vec<u8> {

@@ -3,20 +3,29 @@
 
 use crate::numbers::{Number, NO_BIT, OUTPUT, SHORT_SHARE, UNSENT};
 use crate::octets::packed;
+use crate::parity::FILLER;
+use crate::rate::sent_places;
 use crate::transfer::{Asked, Transfer};
 
-/// The count of octets written, which is A/8, or 5 to 14.
+/// The count of octets written, which is A/8, or 5 to 14, or 16.
 pub fn receive(
     record: &[u8],
     a: u64,
     layers: u64,
     order: u64,
+    rv: u64,
     bits: &[u8],
     output: &mut [u8],
 ) -> Result<usize, Number> {
     // "the received bits, whose number is G".
     let g = bits.len() as u64;
-    let transfer = Transfer::new(record, a, Asked { layers, order, g })?;
+    let asked = Asked {
+        layers,
+        order,
+        g,
+        rv,
+    };
+    let transfer = Transfer::new(record, a, asked)?;
     if output.len() < transfer.octets {
         return Err(OUTPUT);
     }
@@ -47,20 +56,40 @@ pub fn has_room(transfer: &Transfer) -> bool {
 /// "Let N be a block's coded places less its filler."
 pub fn unmarked_places(transfer: &Transfer, r: usize) -> usize {
     let plan = &transfer.plan;
-    let coded = (transfer.profile.kb + transfer.profile.m) * plan.z;
+    let coded = transfer.profile.columns() * plan.z;
     let filler = plan.k - plan.own_bits(r);
     coded - filler
 }
 
-/// The octets that the systematic bits carry: each block's own bits are the first of its share.
+/// The octets that the systematic bits carry. There is room for each of them.
 fn candidate(transfer: &Transfer, bits: &[u8]) -> Vec<u8> {
     let mut carried = Vec::new();
     for r in 0..transfer.plan.c {
-        let stretch = &bits[transfer.stretch(r)];
-        carried.extend_from_slice(&stretch[..transfer.plan.own_bits(r)]);
+        carried.extend(own_bits(transfer, r, &bits[transfer.stretch(r)]));
     }
     // The checksum's bits follow those of the octets.
     packed(&carried[..8 * transfer.octets])
+}
+
+/// A block's own bits out of its share: each as the first copy of its place has it.
+fn own_bits(transfer: &Transfer, r: usize, share: &[u8]) -> Vec<u8> {
+    let mut own = vec![0; transfer.plan.own_bits(r)];
+    // The copies backwards, so that the first stays.
+    for (&place, &bit) in order(transfer, r).iter().zip(share).rev() {
+        if let Some(to) = own.get_mut(place) {
+            *to = bit;
+        }
+    }
+    own
+}
+
+/// For each bit of a block's share the coded place that it is taken from. Which places are marked decides
+/// it, and not what the others hold.
+pub fn order(transfer: &Transfer, r: usize) -> Vec<usize> {
+    let plan = &transfer.plan;
+    let mut places = vec![0; transfer.profile.columns() * plan.z];
+    places[plan.own_bits(r)..plan.k].fill(FILLER);
+    sent_places(&places, transfer.version, transfer.shares[r])
 }
 
 #[cfg(test)]

@@ -3,12 +3,12 @@
 
 use crate::draft::{with_staircase, Draft, Rows, EMPTY};
 #[cfg(test)]
-use crate::{octets::unpacked, random::Random};
+use crate::{draft::with_extension, octets::unpacked, random::Random};
 
-/// The toy record of document 01, "Small profile and worked numbers".
-pub const TOY: [u8; 22] = [
-    0x00, 0x01, 0x00, 0x03, 0x00, 0x01, 0x00, 0x02, 0x00, 0x0a, 0x00, 0x01, 0x00, 0xff, 0x01, 0x00,
-    0x00, 0x00, 0xff, 0x01, 0xff, 0x00,
+/// The toy record of document 01, "Small profile and worked numbers", in the form of document 02, CR 3.
+pub const TOY: [u8; 26] = [
+    0x00, 0x01, 0x00, 0x03, 0x00, 0x00, 0x00, 0x01, 0x00, 0x01, 0x00, 0x02, 0x00, 0x0e, 0x00, 0x01,
+    0x00, 0xff, 0x01, 0x00, 0x00, 0x00, 0xff, 0x01, 0xff, 0x00,
 ];
 
 /// Table 5.1.3.2-2, rate 5/6, for Z 27, 54 and 81. Every row has its 24 numbers.
@@ -98,28 +98,65 @@ pub fn plain(kb: u16, m: u16, sizes: &[u16]) -> Draft {
     Draft::new(kb, m, sizes.iter().map(table).collect())
 }
 
+/// The record of Type 2 with which the redundancy versions are worked out (document 02, CR 3): kb 1, m 3,
+/// x 1, one z of 3.
+#[cfg(test)]
+pub const EXTENDED: [u8; 34] = [
+    0x00, 0x01, 0x00, 0x03, 0x00, 0x01, 0x00, 0x02, 0x00, 0x01, 0x00, 0x03, 0x00, 0x0e, 0x00, 0x01,
+    0x00, 0xff, 0xff, 0x02, 0x00, 0x00, 0x00, 0xff, 0x01, 0x01, 0xff, 0x00, 0xff, 0xff, 0x02, 0xff,
+    0x01, 0x00,
+];
+
+/// What octet A5 is sent as with it, N_L 1, Q_m 2 and G 176, in hexadecimal, for rv 0 to 3.
+#[cfg(test)]
+pub const EXTENDED_SENT: [&str; 4] = [
+    "a2bd3f585eb25eb2a2bd0000fc0f9de55eb2a2bdc6af",
+    "15eafac3f595f59515ea0000e07fef29f59515ea1abc",
+    "af51d61facafacafaf51000003fe794eacafaf51d5e3",
+    "7a8ab0fd657a657a7a8a00001ff0ca77657a7a8aaf1a",
+];
+
+/// A record of Type 2 with nothing but zeros left of its staircases, and with extension rows that are filled
+/// in every other column before their 0, with shift 1 where z allows it.
+#[cfg(test)]
+pub fn plain_extended(kb: u16, m: u16, x: u16, sizes: &[u16]) -> Draft {
+    let left = vec![vec![0; usize::from(kb)]; usize::from(m)];
+    let table = |&z: &u16| {
+        let shift = u8::from(z > 1);
+        let entry = |column: u16| if column % 2 == 0 { shift } else { EMPTY };
+        let extension: Rows = (0..x)
+            .map(|i| (0..kb + m + i).map(entry).collect())
+            .collect();
+        (
+            z,
+            with_extension(with_staircase(&left, shift, 1), &extension),
+        )
+    };
+    Draft::of_type(2, kb, m, x, sizes.iter().map(table).collect())
+}
+
 /// The toy with a shift that is not below its z.
 #[cfg(test)]
-pub fn not_well_formed() -> [u8; 22] {
+pub fn not_well_formed() -> [u8; 26] {
     let mut record = TOY;
-    record[10] = 2;
+    record[14] = 2;
     record
 }
 
 /// The toy with shift 1 where its staircase has to hold 0: row 0 of column kb + 1.
 #[cfg(test)]
-pub fn no_staircase() -> [u8; 22] {
+pub fn no_staircase() -> [u8; 26] {
     let mut record = TOY;
-    record[12] = 1;
+    record[16] = 1;
     record
 }
 
 /// Kb 1, m 3, one z of 5: rows 2 1 0 -, 4 0 0 0 and 1 1 - 0. No shift but 0 is the same the other way
 /// round, as shift 1 of the toy is.
 #[cfg(test)]
-pub const FIVE: [u8; 22] = [
-    0x00, 0x01, 0x00, 0x03, 0x00, 0x01, 0x00, 0x05, 0x00, 0x0a, 0x02, 0x01, 0x00, 0xff, 0x04, 0x00,
-    0x00, 0x00, 0x01, 0x01, 0xff, 0x00,
+pub const FIVE: [u8; 26] = [
+    0x00, 0x01, 0x00, 0x03, 0x00, 0x00, 0x00, 0x01, 0x00, 0x01, 0x00, 0x05, 0x00, 0x0e, 0x02, 0x01,
+    0x00, 0xff, 0x04, 0x00, 0x00, 0x00, 0x01, 0x01, 0xff, 0x00,
 ];
 
 /// A word that checks with it: x = 10000 and three groups of parity bits. With x5 read as x0 and so on,
@@ -190,8 +227,8 @@ fn entries(row: &[i16]) -> Vec<u8> {
 
 #[cfg(test)]
 mod tests {
-    use super::{five_sixths, half, printed, FIVE_SIXTHS, HALF, TOY};
-    use crate::draft::{with_staircase, Draft, EMPTY};
+    use super::{five_sixths, half, printed, EXTENDED, FIVE_SIXTHS, HALF, TOY};
+    use crate::draft::{with_extension, with_staircase, Draft, EMPTY};
 
     /// The numbers of a row that are no -1, from a column on.
     fn filled_from(row: &[i16], column: usize) -> Vec<i16> {
@@ -211,12 +248,21 @@ mod tests {
     }
 
     #[test]
+    fn the_record_of_type_2_is_made_of_its_parts() {
+        let left = [vec![0], vec![2], vec![1]];
+        let staircase = with_staircase(&left, 1, 1);
+        let rows = with_extension(staircase, &[vec![EMPTY, 2, EMPTY, 1]]);
+        let record = Draft::of_type(2, 1, 3, 1, vec![(3, rows)]);
+        assert_eq!(record.octets(), EXTENDED);
+    }
+
+    #[test]
     fn rate_5_6_has_all_its_numbers() {
         for text in FIVE_SIXTHS {
             assert_eq!(printed(text).len(), 4);
             assert!(printed(text).iter().all(|row| row.len() == 24));
         }
-        assert_eq!(five_sixths().octets().len(), 18 + 3 * 4 * 24);
+        assert_eq!(five_sixths().octets().len(), 22 + 3 * 4 * 24);
     }
 
     #[test]
@@ -234,6 +280,6 @@ mod tests {
             }
             assert_eq!([rows[0][12], rows[6][12], rows[11][12]], [1, 0, 1]);
         }
-        assert_eq!(half().octets().len(), 18 + 3 * 12 * 24);
+        assert_eq!(half().octets().len(), 22 + 3 * 12 * 24);
     }
 }

@@ -77,6 +77,11 @@ fn found(entries: &[Entry], tenant: u16, profile: u16, side: Side) -> Option<Fou
     })
 }
 
+/// Whether a shelf is well formed.
+pub fn is_well_formed(shelf: &[u8], side: Side) -> bool {
+    entries(shelf, side).is_some()
+}
+
 /// The entries of a well-formed shelf.
 fn entries(shelf: &[u8], side: Side) -> Option<Vec<Entry>> {
     let entries = read(shelf)?;

@@ -8,14 +8,16 @@ use std::path::Path;
 
 use crate::shelf::Side;
 
-/// Each shelf's side, its text and the shelf that is made of it.
-const SHELVES: [(Side, &str, &str); 2] = [
+/// Each shelf's side, its text and the shelf that is made of it. The trial shelf is a public one of its own,
+/// for a table that nobody stands for.
+const SHELVES: [(Side, &str, &str); 3] = [
     (Side::Public, "public.txt", "public.shelf"),
     (Side::Private, "private.txt", "private.shelf"),
+    (Side::Public, "trial.txt", "trial.shelf"),
 ];
 
-/// Reads both texts in one folder and writes both shelves into another. Nothing is written before
-/// both texts have been read without a fault.
+/// Reads the texts in one folder and writes the shelves into another. Nothing is written before all the
+/// texts have been read without a fault.
 pub fn make(from: &Path, to: &Path) -> io::Result<()> {
     let mut made = Vec::new();
     for (side, text, shelf) in SHELVES {

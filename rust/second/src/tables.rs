@@ -1,10 +1,13 @@
 //! Reads the printed tables of 5G.212 v2.3, section 5.1.3.2, counts their numbers row by row, and
-//! writes the tables that are right as the text of the public shelf.
+//! writes the tables that are right as the text of the public shelf, and the one that is not, mended by a
+//! rule, as the text of the trial shelf.
 
+mod third;
 mod write;
 
 use std::io;
 
+pub use third::trial;
 pub use write::{counts, public};
 
 /// A table of the section and what is due in it (table 5.1.3.2-1).
@@ -13,6 +16,8 @@ struct Due {
     title: &'static str,
     kb: usize,
     m: usize,
+    /// The extension rows behind the m of the staircase.
+    x: usize,
     /// The z of its parts (a), (b) and (c), or of the whole where it has none.
     sizes: &'static [u16],
     /// How many lines a row is printed in.
@@ -26,6 +31,7 @@ const FIVE_SIXTHS: Due = Due {
     title: "rate 5/6, Type 1",
     kb: 20,
     m: 4,
+    x: 0,
     sizes: &TYPE_1,
     lines: 1,
 };
@@ -35,6 +41,7 @@ const THREE_QUARTERS: Due = Due {
     title: "rate 3/4, Type 1",
     kb: 18,
     m: 6,
+    x: 0,
     sizes: &TYPE_1,
     lines: 1,
 };
@@ -44,6 +51,7 @@ const TWO_THIRDS: Due = Due {
     title: "rate 2/3, Type 1",
     kb: 16,
     m: 8,
+    x: 0,
     sizes: &TYPE_1,
     lines: 1,
 };
@@ -53,6 +61,7 @@ const HALF: Due = Due {
     title: "rate 1/2, Type 1",
     kb: 12,
     m: 12,
+    x: 0,
     sizes: &TYPE_1,
     lines: 1,
 };
@@ -61,7 +70,8 @@ const THIRD: Due = Due {
     number: "5.1.3.2-6",
     title: "rate 1/3, Type 2",
     kb: 20,
-    m: 40,
+    m: 4,
+    x: 36,
     sizes: &[81],
     lines: 2,
 };
@@ -88,7 +98,7 @@ impl Due {
         }
         // Nothing is printed between the caption and the first part.
         parts.retain(|part| !part.is_empty());
-        let due = self.m * self.lines;
+        let due = self.rows() * self.lines;
         if parts.len() != self.sizes.len() || parts.iter().any(|part| part.len() != due) {
             let found: Vec<usize> = parts.iter().map(Vec::len).collect();
             return Err(io::Error::other(format!(
@@ -100,9 +110,13 @@ impl Due {
         Ok(parts)
     }
 
+    fn rows(&self) -> usize {
+        self.m + self.x
+    }
+
     /// How many numbers a row has to hold.
     fn columns(&self) -> usize {
-        self.kb + self.m
+        self.kb + self.rows()
     }
 }
 

@@ -1,4 +1,4 @@
-//! What sending and receiving have in common: numbers 5 to 10, and the six steps of document 01.
+//! What sending and receiving have in common: numbers 5 to 10 and 16, and the six steps of document 01.
 
 use std::ops::Range;
 
@@ -10,13 +10,15 @@ use crate::parity::{Code, FILLER};
 use crate::plan::{block_octets, cut, Plan};
 use crate::rate::matched;
 use crate::record::{profile, Profile};
+use crate::version::Version;
 
-/// N_L, Q_m and G as they are asked for: any numbers.
+/// N_L, Q_m, G and the redundancy version as they are asked for: any numbers.
 #[derive(Clone, Copy, Debug, PartialEq, Eq)]
 pub struct Asked {
     pub layers: u64,
     pub order: u64,
     pub g: u64,
+    pub rv: u64,
 }
 
 /// A profile, a block length and an allocation that go together.
@@ -30,13 +32,16 @@ pub struct Transfer {
     pub shares: Vec<usize>,
     /// G, the bits of them all.
     pub g: usize,
+    pub version: Version,
 }
 
 impl Transfer {
-    /// The transfer of a block of A bits, or the lowest of 5 to 10 that applies.
+    /// The transfer of a block of A bits, or the first of 5, 6, 7, 16, 8, 9 and 10 that applies: 16 stands
+    /// "between 7 and 8".
     pub fn new(record: &[u8], a: u64, asked: Asked) -> Result<Transfer, Number> {
         let profile = profile(record)?;
         let octets = block_octets(a)?;
+        let version = Version::new(profile.coding, asked.rv)?;
         let allocation = Allocation::new(asked.layers, asked.order, asked.g)?;
         let plan = cut(&profile, octets)?;
         let shares = allocation.shares(plan.c)?;
@@ -46,6 +51,7 @@ impl Transfer {
             octets,
             shares,
             g: allocation.g,
+            version,
         })
     }
 
@@ -72,7 +78,7 @@ impl Transfer {
             places.resize(self.plan.k, FILLER);
             // Steps 4 and 6, with block r's own share.
             let coded = code.coded(&places);
-            sent.extend(matched(&coded, self.shares[r]));
+            sent.extend(matched(&coded, self.version, self.shares[r]));
         }
         sent
     }

@@ -76,6 +76,8 @@ fn help_says_what_there_is() {
         "second shelves FOLDER",
         "second tables",
         "second public",
+        "second trial",
+        "second rewrite OLD NEW",
         "second help",
     ] {
         assert!(text.contains(name));
@@ -110,7 +112,7 @@ fn shelves_are_made_from_their_texts() {
     let output = second(&["shelves", folders[0], folders[1]], Stdio::null());
     assert!(output.status.success());
     assert!(output.stdout.is_empty());
-    for name in ["public.shelf", "private.shelf"] {
+    for name in ["public.shelf", "private.shelf", "trial.shelf"] {
         let shipped = fs::read(shelves.join(name)).unwrap();
         assert_eq!(fs::read(made.join(name)).unwrap(), shipped, "{name}");
     }
@@ -131,12 +133,40 @@ fn a_text_with_a_fault_is_reported_in_one_line() {
 
 #[test]
 fn a_text_without_the_tables_is_reported() {
-    for command in ["tables", "public"] {
+    for command in ["tables", "public", "trial"] {
         let output = second(&[command], Stdio::null());
         assert_eq!(output.status.code(), Some(1));
         let message = String::from_utf8(output.stderr).unwrap();
         assert!(message.starts_with("second: table 5.1.3.2-"), "{message}");
     }
+}
+
+#[test]
+fn what_is_stored_in_the_old_form_is_rewritten() {
+    let folder = Path::new(env!("CARGO_TARGET_TMPDIR")).join("rewrite");
+    fs::create_dir_all(&folder).unwrap();
+    let (old, new) = (folder.join("old"), folder.join("new"));
+    let _ = fs::remove_file(&new);
+    let names = [old.to_str().unwrap(), new.to_str().unwrap()];
+    fs::write(
+        &old,
+        "plan 0001000300010002000A000100FF01000000FF01FF00 13\n",
+    )
+    .unwrap();
+    let output = second(&["rewrite", names[0], names[1]], Stdio::null());
+    assert!(output.status.success());
+    assert!(output.stdout.is_empty());
+    assert_eq!(output.stderr, b"records rewritten: 1, lines: 1\n");
+    let answers = second(&["replay"], File::open(&new).unwrap().into());
+    assert_eq!(answers.stdout, b"0 128 64 2 2\n");
+    // What is rewritten is not rewritten again.
+    let output = second(&["rewrite", names[1], names[0]], Stdio::null());
+    assert_eq!(output.status.code(), Some(1));
+    let message = String::from_utf8(output.stderr).unwrap();
+    assert!(
+        message.ends_with("line 1: a record has the new form already\n"),
+        "{message}"
+    );
 }
 
 #[test]
@@ -156,6 +186,10 @@ fn other_commands_are_refused() {
         &["shelves", "from", "to", "on"],
         &["tables", "file"],
         &["public", "file"],
+        &["trial", "file"],
+        &["rewrite"],
+        &["rewrite", "old"],
+        &["rewrite", "old", "new", "on"],
         &["help", "me"],
     ] {
         let output = second(arguments, Stdio::null());

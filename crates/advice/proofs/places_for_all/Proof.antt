@@ -32,7 +32,7 @@ module _ (R : List ℕ) (b : ℕ) (terms : Terms) (r : ℕ) (n : CodedBits) (min
       omega (arith, ap (λ (x : SymbolPlaces). x .0) made, ceil-least (n .0) (placeBits terms) some (n .0) (le-mul-of-pos-right (n .0) some))
 
 abbrev Inv-loop : tie.InvT-loop
-Inv-loop profile plan terms c all₀ r₀ all r = (r ≤ plan .blocks) × (all ≡ sumBelow r (placesFor profile (plan .bits) terms)) × (all ≤ 2592 * r)
+Inv-loop profile plan terms c all₀ r₀ all r = (r ≤ plan .blocks) × (all ≡ sumBelow r (placesFor profile (plan .bits) terms)) × (all ≤ 4860 * r)
 
 abbrev μ-loop : tie.MeasureT-loop
 μ-loop profile plan terms c all₀ r₀ all r = plan .blocks - r
@@ -60,7 +60,7 @@ module _ (c : tie.After-struct-known Inv-loop μ-loop) where
       mine-is (now (st .args .profile)) (st .args .plan .bits) (st .args .terms) _ (c .before .before .sendable .result) _
       (c .before .before .sendable .ensures .0) (c .before .symbol-places-for .ensures)
 
-  small : c .before .symbol-places-for .result .0 ≤ 2592
+  small : c .before .symbol-places-for .result .0 ≤ 4860
   small =
       omega (
         arith,

@@ -9,6 +9,6 @@ use Rattle.profile.specs.Record.{empty}
 pub record HasRow (T : List ℕ) (columns z row : ℕ) : Type 0 where
   pub z-some : 0 < z
   pub z-most : z ≤ 81
-  pub columns-most : columns ≤ 32
+  pub columns-most : columns ≤ 60
   pub shifts : (k : ℕ) → (getD T k 0 ≡ empty → ⊥) → getD T k 0 < z
   pub entries : suc (row / z) * columns ≤ length T

@@ -82,6 +82,7 @@ send-bits-requires c κs =
     let some : 0 < plan .result .blocks = omega (arith, blocks-are R (length block) (plan .result) (plan .ensures) (ok .0), plan-cut R (length block) (ok .0) .some) in
     record {
       ready = rw same (ready-transport R block (plan .result) (ok .0) (plan .ensures));
+      version = ok .3;
       allocated = allocated (a .terms) (a .g .0) (plan .result .blocks) (ok .1) some;
       room = ok .2;
     }

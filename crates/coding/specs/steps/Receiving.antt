@@ -2,27 +2,37 @@
 use mathlib.Core.Path.{_≡_}
 use mathlib.Core.Bool.{Bool, true, false}
 use mathlib.Core.List.{List, _++_}
-use Prim.Native.Nat.{ℕ}
+use Prim.Native.Nat.{ℕ, _*_}
 use lib.ListN.{length, take, drop}
 use Rattle.bits.specs.Bits.{AreBits}
 use Rattle.bits.specs.Ranges.{sumBelow}
 use Rattle.bits.specs.declared.number.Written.{Written}
 use Rattle.bits.specs.declared.count.Terms.{Terms}
-use Rattle.cutting.specs.Plan.{blockBits, blocks, ownBits}
+use Rattle.profile.specs.Record.{kind, z, columns}
+use Rattle.cutting.specs.Plan.{blockBits, blocks, ownBits, sizeIndex, places}
 use Rattle.cutting.specs.Promises.{planNumber, planned}
 use Rattle.cutting.specs.declared.Plan.{Plan}
+use Rattle.matching.specs.Matching.{misversioned}
+use Rattle.matching.specs.steps.Line.{heard}
 use Rattle.coding.specs.Allocation.{share}
 use Rattle.coding.specs.Joining.{joined, radioBits}
 use Rattle.coding.specs.Receiving.{someSentAs, receivedBlock, someWithoutRoom}
+use Rattle.coding.specs.steps.Sending.{versionStart}
 use Rattle.coding.specs.steps.Shares.{Allocated}
 
 -- block r's stretch of the received bits begins where the shares before it end
 unfoldable pub shareStart : Terms → ℕ → ℕ → ℕ → ℕ
 shareStart terms g c r = sumBelow r (λ i. share terms g c i .0)
 
--- block r's own bits stand at the beginning of its stretch; b is the count of transport bits
+-- that stretch
+unfoldable pub stretch : List ℕ → ℕ → Terms → List ℕ → ℕ → List ℕ
+stretch R b terms bits r = take (share terms (length bits) (blocks R b) r .0) (drop (shareStart terms (length bits) (blocks R b) r) bits)
+
+-- block r's own bits stand at the beginning of its stretch, once that is in line; b is the count of transport bits
 unfoldable pub ownReceived : List ℕ → ℕ → Terms → List ℕ → ℕ → List ℕ
-ownReceived R b terms bits r = take (ownBits b (blocks R b) r) (drop (shareStart terms (length bits) (blocks R b) r) bits)
+ownReceived R b terms bits r =
+    take (ownBits b (blocks R b) r)
+    (heard (ownBits b (blocks R b) r) (places R b) (versionStart R b terms) (columns R * z R (sizeIndex R b)) (stretch R b terms bits r))
 
 -- the transport bits that the received bits can only have been sent for
 unfoldable pub gathered : List ℕ → ℕ → Terms → List ℕ → List ℕ
@@ -31,6 +41,7 @@ gathered R b terms bits = joined (blocks R b) (ownReceived R b terms bits)
 -- received bits that no number before 14 refuses, for a block of so many octets
 pub record Receivable (R : List ℕ) (octets : ℕ) (terms : Terms) (bits : List ℕ) : Type 0 where
   pub taken : planNumber R octets ≡ 0
+  pub version : misversioned (kind R) (terms .rv) ≡ false
   pub allocated : Allocated terms (length bits) (blocks R (blockBits octets))
   pub single : AreBits bits
   pub room : someWithoutRoom R octets terms (length bits) ≡ false

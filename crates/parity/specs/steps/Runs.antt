@@ -68,7 +68,7 @@ pub record Stacked (s : List ℕ) (m z : ℕ) : Type 0 where
   pub size : m * z ≤ length s
   pub bits : AreBits s
   pub m-some : 0 < m
-  pub m-most : m ≤ 12
+  pub m-most : m ≤ 40
   pub z-most : z ≤ 81
 
 -- g holds, in its first z places, the sums of the rows 0 .. r − 1 of s

@@ -4,6 +4,7 @@ use mathlib.Core.Bool.{Bool, cond, not, _&&_, _||_}
 use mathlib.Core.List.{List}
 use Prim.Native.Nat.{ℕ, suc, _+_, _-_}
 use lib.Dec.{eqb, leb, ltb}
+use lib.ListN.{getD}
 use Rattle.bits.specs.Ranges.{allBelow, anyBelow}
 use Rattle.profile.specs.Record.{entry, empty}
 use Rattle.profile.specs.Staircase.{nextDue}
@@ -26,3 +27,7 @@ stairsAt T kb m columns middle = leb 1 middle && ltb (suc middle) m && allBelow 
 
 unfoldable pub walked : List ℕ → ℕ → ℕ → ℕ → Bool
 walked T kb m columns = not (eqb (entry T columns 0 kb) empty) && anyBelow m (stairsAt T kb m columns)
+
+-- the k-th entry from `from` on is empty
+unfoldable pub emptyFrom : List ℕ → ℕ → ℕ → Bool
+emptyFrom T from k = eqb (getD T (from + k) 0) empty

@@ -7,7 +7,7 @@ use crate::random::Random;
 
 pub fn line(kind: &Kind, random: &mut Random) -> Vec<u8> {
     if !kind.form.options.is_empty() && random.one_in(3) {
-        return about_the_checker(kind, random);
+        return about_its_options(kind, random);
     }
     match random.below(10) {
         0 => no_answer(kind, random),
@@ -285,13 +285,23 @@ fn optional_word(random: &mut Random) -> Vec<u8> {
     [name, b"=", held].concat()
 }
 
-/// A request that may ask for a checker, with words about that behind it, in the middle of it, or in the
-/// place of one of its words. The request is good, refused, or at the edge itself, so that the order of
+/// Words that are picked from a list.
+type Picked = fn(&mut Random) -> &'static [u8];
+
+/// A request whose form has optional words, with words about these behind it, in the middle of it, or in
+/// the place of one of its words. The request is good, refused, or at the edge itself, so that the order of
 /// the errors is compared.
-fn about_the_checker(kind: &Kind, random: &mut Random) -> Vec<u8> {
+fn about_its_options(kind: &Kind, random: &mut Random) -> Vec<u8> {
     let mut words = random.pick(&[Kind::done, Kind::refused, words_at_the_edge])(kind, random);
     words.truncate(1 + kind.form.words.len());
-    let about = checker_words(random).to_vec();
+    let about: [(&str, Picked); 3] = [
+        ("by", checker_words),
+        ("rv", version_words),
+        ("type", type_words),
+    ];
+    let has = |name: &str| kind.form.options.iter().any(|option| option.name() == name);
+    let about: Vec<_> = about.iter().filter(|(name, _)| has(name)).collect();
+    let about = random.pick(&about).1(random).to_vec();
     let place = 1 + random.below(kind.form.words.len());
     match random.below(6) {
         0 => words.insert(place, about),
@@ -304,7 +314,7 @@ fn about_the_checker(kind: &Kind, random: &mut Random) -> Vec<u8> {
 /// The optional word for the checker, and what is close to it: another value, another name, another
 /// form, and more words than one.
 fn checker_words(random: &mut Random) -> &'static [u8] {
-    let words: [&[u8]; 19] = [
+    let words: [&[u8]; 22] = [
         b"by=quick",
         b"by=plain",
         b"by=slow",
@@ -317,6 +327,9 @@ fn checker_words(random: &mut Random) -> &'static [u8] {
         b"=plain",
         b"by",
         b"by plain",
+        b"ed=1",
+        b"by=plain ed=1",
+        b"ed=1 by=plain",
         b"rv=0",
         b"by=plain rv=0",
         b"rv=0 by=plain",
@@ -324,6 +337,78 @@ fn checker_words(random: &mut Random) -> &'static [u8] {
         b"by=quick by=plain",
         b"by=slow by=plain",
         b"by=plain -",
+    ];
+    random.pick(&words)
+}
+
+/// The same for the redundancy version.
+fn version_words(random: &mut Random) -> &'static [u8] {
+    let words: [&[u8]; 32] = [
+        b"rv=0",
+        b"rv=1",
+        b"rv=2",
+        b"rv=3",
+        b"rv=4",
+        b"rv=00000000000000000000000000000003",
+        b"rv=18446744073709551615",
+        b"rv=18446744073709551616",
+        b"rv=18446744073709551617",
+        b"rv=",
+        b"rv==",
+        b"rv=-",
+        b"rv=+1",
+        b"rv=-1",
+        b"rv=1=",
+        b"rv=0x1",
+        b"rv=three",
+        b"RV=0",
+        b"rv",
+        b"rv 0",
+        b"rv=0 rv=0",
+        b"rv=0 rv=1",
+        b"rv=q rv=0",
+        b"rv=0 ed=1",
+        b"ed=1 rv=0",
+        b"rv=0 q=1",
+        b"rv=1 by=plain",
+        b"by=plain rv=1",
+        b"rv=q by=slow",
+        b"by=slow rv=q",
+        b"rv=1 type=2",
+        b"rv=0 -",
+    ];
+    random.pick(&words)
+}
+
+/// The same for the coding type, alone and with a redundancy version.
+fn type_words(random: &mut Random) -> &'static [u8] {
+    let words: [&[u8]; 26] = [
+        b"type=1",
+        b"type=2",
+        b"type=0",
+        b"type=3",
+        b"type=02",
+        b"type=18446744073709551615",
+        b"type=18446744073709551617",
+        b"type=18446744073709551618",
+        b"type=",
+        b"type=two",
+        b"type=2=",
+        b"Type=2",
+        b"type",
+        b"type 2",
+        b"type=2 type=2",
+        b"type=1 type=2",
+        b"type=2 rv=1",
+        b"rv=1 type=2",
+        b"type=2 rv=4",
+        b"type=3 rv=4",
+        b"type=1 rv=1",
+        b"type=q rv=1",
+        b"rv=1 type=q",
+        b"type=2 rv=1 type=2",
+        b"type=2 by=plain",
+        b"rv=1 type=2 -",
     ];
     random.pick(&words)
 }
@@ -369,7 +454,7 @@ fn any_but_newline(random: &mut Random) -> u8 {
 
 #[cfg(test)]
 mod tests {
-    use super::{about_the_checker, line, optional_words};
+    use super::{about_its_options, line, optional_words};
     use crate::answer::answer;
     use crate::kinds::{named, Kind, KINDS};
     use crate::random::Random;
@@ -391,7 +476,7 @@ mod tests {
     #[test]
     fn optional_words_are_errors_where_a_kind_has_none() {
         let mut random = Random::new(1);
-        let has_none = |kind: &&Kind| !CHECKING.contains(&kind.name);
+        let has_none = |kind: &&Kind| kind.form.options.is_empty();
         for kind in KINDS.iter().filter(has_none) {
             let lines: Vec<_> = (0..100)
                 .map(|_| optional_words(kind, &mut random))
@@ -402,22 +487,38 @@ mod tests {
         }
     }
 
+    /// The kinds whose forms have optional words.
+    fn with_options() -> impl Iterator<Item = &'static Kind> {
+        KINDS.iter().filter(|kind| !kind.form.options.is_empty())
+    }
+
     #[test]
-    fn words_about_the_checker_are_errors_or_not() {
+    fn words_about_options_are_errors_or_not() {
         let mut random = Random::new(2);
-        for name in CHECKING {
-            let kind = named(name.as_bytes()).unwrap();
+        assert_eq!(with_options().count(), 7);
+        for kind in with_options() {
+            let name = kind.name;
             let lines: Vec<_> = (0..1000)
-                .map(|_| about_the_checker(kind, &mut random))
+                .map(|_| about_its_options(kind, &mut random))
                 .collect();
             let answers = answers(&lines);
-            assert!(count(&answers, "error words") > 500, "{name}");
-            // Words in the middle, and words at the edge, go before what `by` holds.
-            for error in ["error number", "error bits", "error hex"] {
-                assert!(count(&answers, error) > 0, "{name}: {error}");
-            }
+            assert!(count(&answers, "error words") > 300, "{name}");
+            assert!(count(&answers, "error number") > 0, "{name}");
+            // Words in the middle, and words at the edge, go before what an optional word holds.
+            assert!(
+                count(&answers, "error bits") + count(&answers, "error hex") > 0,
+                "{name}"
+            );
             assert!(count(&answers, "0 ") > 10, "{name}");
         }
+    }
+
+    /// Whether some of the lines end so and are answered so.
+    fn is_answered(lines: &[Vec<u8>], ending: &str, text: &str) -> bool {
+        let mut ending_so = lines
+            .iter()
+            .filter(|line| line.ends_with(ending.as_bytes()));
+        ending_so.any(|line| answer(line).unwrap().starts_with(text))
     }
 
     #[test]
@@ -425,19 +526,19 @@ mod tests {
         let mut random = Random::new(3);
         for name in CHECKING {
             let kind = named(name.as_bytes()).unwrap();
-            let lines: Vec<_> = (0..1000).map(|_| line(kind, &mut random)).collect();
+            let lines: Vec<_> = (0..2000).map(|_| line(kind, &mut random)).collect();
             for ending in [
                 " by=slow",
                 " by=",
                 " by=Plain",
                 " by=plain by=plain",
                 " by=quick by=plain",
-                " rv=0",
+                " ed=1",
             ] {
-                let end = ending.as_bytes();
-                let mut ending_so = lines.iter().filter(|line| line.ends_with(end));
-                let is_error = ending_so.any(|line| answer(line).unwrap() == "error words");
-                assert!(is_error, "{name}: {ending}");
+                assert!(
+                    is_answered(&lines, ending, "error words"),
+                    "{name}: {ending}"
+                );
             }
             let in_the_middle = |line: &Vec<u8>| {
                 let mut words = line.split(|&octet| octet == b' ');
@@ -445,6 +546,48 @@ mod tests {
                 place.is_some_and(|place| place < kind.form.words.len())
             };
             assert!(lines.iter().any(in_the_middle), "{name}");
+        }
+    }
+
+    #[test]
+    fn a_version_is_asked_for_wrongly_in_every_way() {
+        let mut random = Random::new(4);
+        for name in ["rate", "send", "recv", "hsend", "hrecv"] {
+            let kind = named(name.as_bytes()).unwrap();
+            let lines: Vec<_> = (0..4000).map(|_| line(kind, &mut random)).collect();
+            for (ending, text) in [
+                (" rv=0 rv=1", "error words"),
+                (" rv=0 ed=1", "error words"),
+                (" RV=0", "error words"),
+                (" rv=", "error number"),
+                (" rv=-1", "error number"),
+                (" rv=18446744073709551616", "error number"),
+                (" rv=18446744073709551615", "16 "),
+                (" rv=4", "16 "),
+            ] {
+                assert!(is_answered(&lines, ending, text), "{name}: {ending}");
+            }
+        }
+    }
+
+    #[test]
+    fn a_type_is_asked_for_in_every_way() {
+        let mut random = Random::new(5);
+        let kind = named(b"rate").unwrap();
+        let lines: Vec<_> = (0..6000).map(|_| line(kind, &mut random)).collect();
+        for (ending, text) in [
+            (" type=2 rv=1", "0 "),
+            (" rv=1 type=2", "0 "),
+            (" type=2 rv=4", "16 "),
+            (" type=1 rv=1", "16 "),
+            (" type=3 rv=4", "5 "),
+            (" type=0", "5 "),
+            (" type=2 type=2", "error words"),
+            (" type=2 rv=1 type=2", "error words"),
+            (" type=2 by=plain", "error words"),
+            (" type=two", "error number"),
+        ] {
+            assert!(is_answered(&lines, ending, text), "{ending}");
         }
     }
 }

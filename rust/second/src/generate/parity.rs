@@ -64,8 +64,8 @@ impl Block {
             record: draft.octets(),
             z: u64::from(z),
             places,
-            coded: usize::from((draft.kb + draft.m) * z),
-            rows: usize::from(draft.m * z),
+            coded: usize::from((draft.kb + draft.m + draft.x) * z),
+            rows: usize::from((draft.m + draft.x) * z),
             draft,
         }
     }

@@ -14,16 +14,41 @@ pub const RATE: Makers = Makers {
     refused,
     large: &[|random| {
         let places = bits(1000, random);
-        rate(65_536, &places, OUTPUT_ROOM, random)
+        let asked = Asked::drawn(random);
+        rate(65_536, &places, OUTPUT_ROOM, asked, random)
     }],
 };
 
-fn rate(e: u64, places: &[u8], length: usize, random: &mut Random) -> Words {
-    vec![
+/// The type and the redundancy version that are asked for, where they are.
+#[derive(Clone, Copy)]
+struct Asked {
+    coding: Option<u64>,
+    rv: Option<u64>,
+}
+
+impl Asked {
+    /// Ones that go together.
+    fn drawn(random: &mut Random) -> Asked {
+        let coding = random.pick(&[None, Some(1), Some(2), Some(2), Some(2)]);
+        let rv = match coding {
+            Some(2) => random.pick(&[None, Some(0), Some(1), Some(2), Some(3), Some(3)]),
+            _ => random.pick(&[None, Some(0)]),
+        };
+        Asked { coding, rv }
+    }
+}
+
+fn rate(e: u64, places: &[u8], length: usize, asked: Asked, random: &mut Random) -> Words {
+    let mut words = vec![
         write::number(e, random),
         write::bits(places, random),
         write::count(length, random),
-    ]
+    ];
+    let mut optional =
+        |name, held: Option<u64>| held.map(|held| write::optional(name, held, random));
+    let (coding, rv) = (optional("type", asked.coding), optional("rv", asked.rv));
+    words.extend(write::in_any_order(coding, rv, random));
+    words
 }
 
 /// A coded block, now and then with no place or with every place marked.
@@ -38,7 +63,8 @@ fn done(random: &mut Random) -> Words {
     let places = coded_block(random);
     let e = fitting_count(&places, random);
     let more = random.pick(&[0, 0, 1, 100]);
-    rate(e as u64, &places, e + more, random)
+    let asked = Asked::drawn(random);
+    rate(e as u64, &places, e + more, asked, random)
 }
 
 /// A count about once or twice round, or any.
@@ -66,7 +92,8 @@ fn refused(random: &mut Random) -> Words {
     let mut places = coded_block(random);
     let mut e = fitting_count(&places, random) as u64;
     let mut length = fitting_count(&places, random).max(600);
-    for fault in random.one_or_two(4) {
+    let mut asked = Asked::drawn(random);
+    for fault in random.one_or_two(6) {
         match fault {
             0 => {
                 let wrapped = e + (1 << random.pick(&[17, 31, 32, 63]));
@@ -81,8 +108,23 @@ fn refused(random: &mut Random) -> Words {
                 let short = usize::try_from(e - 1).unwrap_or(OUTPUT_ROOM);
                 length = random.pick(&[short, short, 0]).min(OUTPUT_ROOM);
             }
+            3 => {
+                let wrapped = random.pick(&[1, 2]) | 1 << random.pick(&[2, 8, 16, 32, 63]);
+                asked.coding = Some(random.pick(&[0, 3, 3, 4, wrapped, wrapped, u64::MAX]));
+            }
+            4 => {
+                let wrapped = random.pick(&[0, 1, 3]) | 1 << random.pick(&[2, 8, 16, 32, 63]);
+                let over = random.pick(&[4, 5, wrapped, wrapped, u64::MAX]);
+                // Type 1 may have none but 0.
+                let low = if asked.coding == Some(2) {
+                    over
+                } else {
+                    random.pick(&[1, 2, 3])
+                };
+                asked.rv = Some(random.pick(&[over, low]));
+            }
             _ => spoil(&mut places, FILLER, random),
         }
     }
-    rate(e, &places, length, random)
+    rate(e, &places, length, asked, random)
 }

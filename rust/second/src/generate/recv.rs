@@ -3,12 +3,14 @@
 
 use super::crc::spoil;
 use super::makers::Makers;
-use super::records::{bad, good};
-use super::send::{allocation, octets, one_too_many, small, spare, spoil_allocation, Cut, Sending};
+use super::records::{bad, extended, good, largest};
+use super::send::{
+    allocation, octets, one_too_many, other_version, small, spare, spoil_allocation, Cut, Sending,
+};
 use super::write::{self, Words};
 use crate::draft::Draft;
 use crate::random::Random;
-use crate::receive::{has_room, unmarked_places};
+use crate::receive::{has_room, order, unmarked_places};
 use crate::samples::TOY;
 use crate::transfer::{Asked, Transfer};
 
@@ -27,6 +29,11 @@ pub const RECV: Makers = Makers {
         |random| long(65_534, random),
         |random| long(65_538, random),
         |random| long(131_072, random),
+        |random| {
+            let draft = largest(&[27, 54, 81], random);
+            let receiving = Receiving::drawn(&draft, random);
+            request(&draft.octets(), &receiving, random)
+        },
     ],
 };
 
@@ -68,7 +75,9 @@ impl Receiving {
             write::bits(&self.bits, random),
             write::count(self.length, random),
         ];
-        words.extend(write::checker(random));
+        let version = write::version(self.asked.rv, random);
+        let checker = write::checker(random);
+        words.extend(write::in_any_order(version, checker, random));
         words
     }
 }
@@ -94,7 +103,10 @@ fn sending_with_room(draft: &Draft, random: &mut Random) -> Sending {
         let whole = random.pick(&[0, 0, 0, 0, blocks, blocks, 2 * blocks, any]);
         least + whole + spare(blocks, random)
     };
-    sending.asked = allocation(&cut, places, random);
+    sending.asked = Asked {
+        rv: sending.asked.rv,
+        ..allocation(&cut, places, random)
+    };
     sending
 }
 
@@ -110,21 +122,29 @@ fn sending_without_room(draft: &Draft, random: &mut Random) -> Sending {
         let fewer = random.pick(&[1, 1, 1, 2, some, blocks, any]);
         least - fewer.min(least)
     };
-    sending.asked = allocation(&cut, places, random);
+    sending.asked = Asked {
+        rv: sending.asked.rv,
+        ..allocation(&cut, places, random)
+    };
     sending
 }
 
 /// A record and what is received with it: one thing is wrong, or two, so that the order of the
 /// numbers is compared.
 pub fn refused(random: &mut Random) -> (Vec<u8>, Receiving) {
+    if random.one_in(12) {
+        return another_version(random);
+    }
     let draft = good(random);
     let mut record = draft.octets();
     let mut receiving = Receiving::drawn(&draft, random);
     // Another count of bits and another length are refused with several numbers each, and so drawn more.
-    let faults = match random.below(8) {
+    // With another version stands one of those faults about which it has to be seen where 16 is tested.
+    let faults = match random.below(9) {
         0 => vec![8],
         1 => vec![10],
-        _ => random.one_or_two(13),
+        2 => vec![12, random.pick(&[10, 11, 13])],
+        _ => random.one_or_two(14),
     };
     for fault in faults {
         match fault {
@@ -140,10 +160,19 @@ pub fn refused(random: &mut Random) -> (Vec<u8>, Receiving) {
             }
             10 => other_a(&draft, &mut receiving, random),
             11 => spoil_allocation(&mut receiving.asked, random),
+            12 => receiving.asked.rv = other_version(&draft, random),
             _ => record = bad(random),
         }
     }
     (record, receiving)
+}
+
+/// Bits that were sent with another redundancy version than they are received with.
+fn another_version(random: &mut Random) -> (Vec<u8>, Receiving) {
+    let draft = extended(random);
+    let mut receiving = Receiving::drawn(&draft, random);
+    receiving.asked.rv = (receiving.asked.rv + random.pick(&[1, 2, 3])) % 4;
+    (draft.octets(), receiving)
 }
 
 /// The transfer that the bits belong to.
@@ -166,12 +195,19 @@ fn place(transfer: &Transfer, random: &mut Random) -> usize {
     let first = transfer.stretch(r).start;
     let copies = transfer.shares[r] - unmarked;
     match random.below(5) {
-        0 => first + own + random.below(unmarked - own),
+        0 => first_copy(transfer, r, plan.k + random.below(unmarked - own)),
         1 if copies > 0 => first + unmarked + random.below(copies),
         2 if longer(transfer) > 0 => spare_place(transfer, random),
         3 => place_of_bit(transfer, plan.b - 1 - random.below(24)),
-        _ => first + random.below(own),
+        _ => first_copy(transfer, r, random.below(own)),
     }
+}
+
+/// Where a coded place of a block is sent first.
+fn first_copy(transfer: &Transfer, r: usize, place: usize) -> usize {
+    let sent = order(transfer, r);
+    let offset = sent.iter().position(|&other| other == place);
+    transfer.stretch(r).start + offset.expect("there is room for each place")
 }
 
 /// How many blocks have a longer share than the last: they are the first.
@@ -201,7 +237,7 @@ fn place_of_bit(transfer: &Transfer, mut bit: usize) -> usize {
         bit -= transfer.plan.own_bits(r);
         r += 1;
     }
-    transfer.stretch(r).start + bit
+    first_copy(transfer, r, bit)
 }
 
 /// The block in whose stretch a place is, and how far the place is behind its first.
@@ -299,6 +335,7 @@ fn long(count: usize, random: &mut Random) -> Words {
         layers: 1,
         order: 2,
         g: count as u64,
+        rv: 0,
     };
     let sent = Transfer::new(&TOY, 8, asked).map(|transfer| transfer.sent(&[random.octet()]));
     let receiving = Receiving {
@@ -335,6 +372,7 @@ mod tests {
                 drawn.a,
                 layers,
                 order,
+                drawn.asked.rv,
                 &drawn.bits,
                 &mut output,
             );

@@ -3,7 +3,7 @@
 
 use super::makers::Makers;
 use super::profile::fitting_octets;
-use super::records::{bad, good};
+use super::records::{bad, good, largest};
 use super::write::{self, Words};
 use crate::draft::Draft;
 use crate::plan;
@@ -21,19 +21,29 @@ pub const SEND: Makers = Makers {
         let (record, sending) = refused(random);
         request(&record, &sending, random)
     },
-    large: &[|random| {
-        let sending = Sending {
-            block: octets(2048, random),
-            asked: Asked {
-                layers: 2,
-                order: 2,
-                g: 65_536,
-            },
-            length: 65_536,
-        };
-        request(&half().octets(), &sending, random)
-    }],
+    large: &[
+        |random| longest(&half(), 0, random),
+        |random| {
+            let draft = largest(&[81], random);
+            longest(&draft, random.pick(&[1, 2, 3]), random)
+        },
+    ],
 };
+
+/// The longest block with as many bits as there may be.
+fn longest(draft: &Draft, rv: u64, random: &mut Random) -> Words {
+    let sending = Sending {
+        block: octets(2048, random),
+        asked: Asked {
+            layers: 2,
+            order: 2,
+            g: 65_536,
+            rv,
+        },
+        length: 65_536,
+    };
+    request(&draft.octets(), &sending, random)
+}
 
 /// What is sent, and the length of the output.
 pub struct Sending {
@@ -56,7 +66,10 @@ impl Sending {
             let about = random.pick(&[blocks, below, least, least, above, any, large]);
             about + spare(blocks, random)
         };
-        let asked = allocation(&cut, places, random);
+        let asked = Asked {
+            rv: fitting_version(draft, count, random),
+            ..allocation(&cut, places, random)
+        };
         let more = random.pick(&[0, 0, 1, 100]);
         Sending {
             block: octets(small(count), random),
@@ -67,13 +80,43 @@ impl Sending {
 
     /// The words after the record, or after the shelves.
     pub fn words(&self, random: &mut Random) -> Vec<Vec<u8>> {
-        vec![
+        let mut words = vec![
             write::hex(&self.block, random),
             write::number(self.asked.layers, random),
             write::number(self.asked.order, random),
             write::number(self.asked.g, random),
             write::count(self.length, random),
-        ]
+        ];
+        words.extend(write::version(self.asked.rv, random));
+        words
+    }
+}
+
+/// A redundancy version that goes with the record's type; often one that starts inside filler, where there is
+/// one.
+fn fitting_version(draft: &Draft, octets: u64, random: &mut Random) -> u64 {
+    if draft.coding == 1 {
+        return 0;
+    }
+    let plan = plan::plan(&draft.octets(), octets).expect("the record takes this block");
+    let d = usize::from(draft.kb + draft.m + draft.x) * plan.z;
+    let shortest = plan.own_bits(plan.c - 1);
+    let inside = (1..4).filter(|&rv| (shortest..plan.k).contains(&(d / 4 * rv)));
+    let inside: Vec<u64> = inside.map(|rv| rv as u64).collect();
+    if !inside.is_empty() && !random.one_in(3) {
+        return random.pick(&inside);
+    }
+    random.pick(&[0, 1, 2, 3])
+}
+
+/// One that does not, or none at all.
+pub fn other_version(draft: &Draft, random: &mut Random) -> u64 {
+    let wrapped = random.pick(&[0, 1, 3]) | 1 << random.pick(&[2, 8, 16, 32, 63]);
+    let any = random.next().max(4);
+    let over = random.pick(&[4, 4, 5, wrapped, wrapped, u64::MAX, any]);
+    match draft.coding {
+        1 => random.pick(&[1, 2, 3, over]),
+        _ => over,
     }
 }
 
@@ -86,7 +129,7 @@ impl Cut {
     /// The cut of a count of octets that the record takes.
     pub fn of(draft: &Draft, octets: u64) -> Cut {
         let plan = plan::plan(&draft.octets(), octets).expect("the record takes this block");
-        let parity = usize::from(draft.m) * plan.z;
+        let parity = usize::from(draft.m + draft.x) * plan.z;
         let unmarked = (0..plan.c).map(|r| (plan.own_bits(r) + parity) as u64);
         Cut {
             unmarked: unmarked.collect(),
@@ -146,6 +189,7 @@ pub fn allocation(
         layers,
         order,
         g: place * places,
+        rv: 0,
     }
 }
 
@@ -195,7 +239,7 @@ pub fn refused(random: &mut Random) -> (Vec<u8>, Sending) {
     let draft = good(random);
     let mut record = draft.octets();
     let mut sending = Sending::drawn(&draft, random);
-    for fault in random.one_or_two(6) {
+    for fault in random.one_or_two(7) {
         match fault {
             0 => record = bad(random),
             1 => {
@@ -205,6 +249,7 @@ pub fn refused(random: &mut Random) -> (Vec<u8>, Sending) {
             2 => spoil_allocation(&mut sending.asked, random),
             3 => sending.block = octets(one_too_many(&draft), random),
             4 => few_places(&draft, &mut sending, random),
+            5 => sending.asked.rv = other_version(&draft, random),
             _ => {
                 let g = small(sending.asked.g.min(65_536));
                 sending.length = random.pick(&[g.saturating_sub(1), g.saturating_sub(1), g / 2, 0]);
@@ -270,13 +315,19 @@ mod tests {
             let least = cut.least(layers * order);
             let transfer = |places: u64| {
                 let g = layers * order * places;
-                Transfer::new(&draft.octets(), 8 * octets, Asked { layers, order, g })
+                let asked = Asked {
+                    layers,
+                    order,
+                    g,
+                    rv: 0,
+                };
+                Transfer::new(&draft.octets(), 8 * octets, asked)
             };
             assert!(has_room(&transfer(least).unwrap()));
             // With fewer symbol places than blocks there is no transfer at all.
             assert!(!transfer(least - 1).is_ok_and(|transfer| has_room(&transfer)));
             uneven += usize::from(least % cut.blocks() != 0);
         }
-        assert!(uneven > 100, "{uneven}");
+        assert!(uneven > 60, "{uneven}");
     }
 }

@@ -1,5 +1,5 @@
 //! Writes the words of requests: numbers, masks, bits and packed octets in each of their forms, and the
-//! optional word.
+//! optional words.
 
 use crate::random::Random;
 use crate::words::MASK_ROOM;
@@ -70,6 +70,32 @@ pub fn hex(octets: &[u8], random: &mut Random) -> Vec<u8> {
 pub fn checker(random: &mut Random) -> Option<Vec<u8>> {
     let words: [Option<&[u8]>; 3] = [None, Some(b"by=quick"), Some(b"by=plain")];
     random.pick(&words).map(<[u8]>::to_vec)
+}
+
+/// An optional word that holds a number.
+pub fn optional(name: &str, held: u64, random: &mut Random) -> Vec<u8> {
+    [name.as_bytes(), b"=", &number(held, random)].concat()
+}
+
+/// The optional word for the redundancy version, which may be left out where it is 0.
+pub fn version(rv: u64, random: &mut Random) -> Option<Vec<u8>> {
+    if rv == 0 && random.one_in(2) {
+        return None;
+    }
+    Some(optional("rv", rv, random))
+}
+
+/// Two optional words in either order, as far as they are there.
+pub fn in_any_order(
+    left: Option<Vec<u8>>,
+    right: Option<Vec<u8>>,
+    random: &mut Random,
+) -> impl Iterator<Item = Vec<u8>> {
+    let mut words: Vec<Vec<u8>> = left.into_iter().chain(right).collect();
+    if random.one_in(2) {
+        words.reverse();
+    }
+    words.into_iter()
 }
 
 /// Two digits for each octet, the letters in either case.

@@ -4,9 +4,11 @@ use super::{hosted_check, hosted_receive, hosted_send};
 use crate::draft::ShelfDraft;
 use crate::numbers::{
     Number, BLOCK_LENGTH, FEW_PLACES, MANY_BLOCKS, NO_BIT, NO_RECORD, OUTPUT, PARAMETER,
-    PRIVATE_SHELF, PUBLIC_SHELF, RECORD, SHORT_SHARE, STAIRCASE, TENANT_0, UNSENT,
+    PRIVATE_SHELF, PUBLIC_SHELF, RECORD, SHORT_SHARE, STAIRCASE, TENANT_0, UNSENT, VERSION,
 };
-use crate::samples::{no_staircase, plain, FIVE, FIVE_WORD, TOY};
+use crate::samples::{
+    bits_of_hex, no_staircase, plain, EXTENDED, EXTENDED_SENT, FIVE, FIVE_WORD, TOY,
+};
 use crate::send::send;
 use crate::shelf::Asked;
 use crate::transfer;
@@ -15,6 +17,7 @@ const G_128: transfer::Asked = transfer::Asked {
     layers: 1,
     order: 2,
     g: 128,
+    rv: 0,
 };
 
 /// Tenants 1 and 2 have a record 7 each, tenant 3 an empty one, and the toy is public record 7.
@@ -23,7 +26,7 @@ fn shelves(tenant: u16, profile: u16) -> Asked {
     let third = plain(1, 3, &[2]).octets();
     Asked {
         private: ShelfDraft::new(&[(1, 7, &other), (2, 7, &third), (3, 7, &[])]).octets(),
-        public: ShelfDraft::new(&[(0, 7, &TOY), (0, 8, &TOY[..21]), (0, 9, &no_staircase())])
+        public: ShelfDraft::new(&[(0, 7, &TOY), (0, 8, &TOY[..25]), (0, 9, &no_staircase())])
             .octets(),
         tenant,
         profile,
@@ -39,7 +42,7 @@ fn sent(shelves: &Asked, block: &[u8]) -> Result<Vec<u8>, Number> {
 
 fn received(shelves: &Asked, bits: &[u8]) -> Result<Vec<u8>, Number> {
     let mut output = vec![7; 4];
-    let count = hosted_receive(shelves, 8, 1, 2, bits, &mut output)?;
+    let count = hosted_receive(shelves, 8, 1, 2, 0, bits, &mut output)?;
     output.truncate(count);
     Ok(output)
 }
@@ -71,9 +74,9 @@ fn what_was_sent_is_received_by_the_same_tenant() {
 }
 
 /// `FIVE` with shift 0 in the place of its first, 2.
-const OTHER_FIVE: [u8; 22] = {
+const OTHER_FIVE: [u8; 26] = {
     let mut record = FIVE;
-    record[10] = 0;
+    record[14] = 0;
     record
 };
 
@@ -157,6 +160,7 @@ fn then_the_numbers_of_sending() {
         layers,
         order: 2,
         g,
+        rv: 0,
     };
     let send = |asked| hosted_send(&shelves(4, 7), &[0x01], asked, &mut [0; 127]);
     assert_eq!(send(asked(0, 128)), Err(PARAMETER));
@@ -168,7 +172,7 @@ fn then_the_numbers_of_sending() {
 #[test]
 fn then_the_numbers_of_receiving() {
     let receive = |a, bits: &[u8], length: usize| {
-        hosted_receive(&shelves(4, 7), a, 1, 2, bits, &mut vec![0; length])
+        hosted_receive(&shelves(4, 7), a, 1, 2, 0, bits, &mut vec![0; length])
     };
     assert_eq!(receive(9, &[0; 128], 1), Err(BLOCK_LENGTH));
     assert_eq!(receive(8, &[0; 129], 1), Err(PARAMETER));
@@ -198,7 +202,41 @@ fn a_refusal_changes_nothing() {
     let mut output = [7; 4];
     for shelves in [shelves(0, 7), shelves(1, 10), shelves(3, 7), shelves(4, 9)] {
         assert!(hosted_send(&shelves, &[0x01], G_128, &mut output).is_err());
-        assert!(hosted_receive(&shelves, 8, 1, 2, &[0; 128], &mut output).is_err());
+        assert!(hosted_receive(&shelves, 8, 1, 2, 0, &[0; 128], &mut output).is_err());
     }
     assert_eq!(output, [7; 4]);
+}
+
+#[test]
+fn a_version_goes_with_the_record_that_is_found() {
+    // Tenant 1 has a record of Type 2, everybody else the toy.
+    let asked = |tenant| Asked {
+        private: ShelfDraft::new(&[(1, 7, &EXTENDED)]).octets(),
+        public: ShelfDraft::new(&[(0, 7, &TOY)]).octets(),
+        tenant,
+        profile: 7,
+    };
+    for (rv, hex) in (0..).zip(EXTENDED_SENT) {
+        let bits = bits_of_hex(hex, 176);
+        let mut output = vec![7; 176];
+        let wanted = transfer::Asked {
+            g: 176,
+            rv,
+            ..G_128
+        };
+        let count = hosted_send(&asked(1), &[0xa5], wanted, &mut output);
+        assert_eq!((count, &output), (Ok(176), &bits));
+        let mut octets = [7; 1];
+        let received = hosted_receive(&asked(1), 8, 1, 2, rv, &bits, &mut octets);
+        assert_eq!((received, octets), (Ok(1), [0xa5]));
+        if rv > 0 {
+            let count = hosted_send(&asked(2), &[0xa5], wanted, &mut output);
+            assert_eq!(count, Err(VERSION));
+            let received = hosted_receive(&asked(2), 8, 1, 2, rv, &bits, &mut octets);
+            assert_eq!(received, Err(VERSION));
+            // 1 to 4 go before it.
+            let received = hosted_receive(&asked(0), 8, 1, 2, rv, &bits, &mut octets);
+            assert_eq!(received, Err(TENANT_0));
+        }
+    }
 }

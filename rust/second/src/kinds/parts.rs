@@ -13,6 +13,9 @@ use crate::transfer::Asked;
 /// matrix. What the word holds is judged where the line is read.
 pub const CHECKER: Optional = Optional::one_of("by", &["quick", "plain"]);
 
+/// The redundancy version.
+pub const VERSION: Optional = Optional::number("rv", 0);
+
 /// PRIVATE PUBLIC TENANT PROFILE.
 pub fn shelves(given: &mut Given) -> shelf::Asked {
     shelf::Asked {
@@ -30,7 +33,7 @@ pub struct Sending {
     pub length: usize,
 }
 
-/// BLOCK NL QM G OUTLEN.
+/// BLOCK NL QM G OUTLEN rv=0.
 pub fn sending(given: &mut Given) -> Sending {
     Sending {
         block: given.octets(),
@@ -38,6 +41,7 @@ pub fn sending(given: &mut Given) -> Sending {
             layers: given.number(),
             order: given.number(),
             g: given.number(),
+            rv: given.number_of("rv"),
         },
         length: given.length(),
     }
@@ -50,9 +54,10 @@ pub struct Receiving {
     pub order: u64,
     pub bits: Vec<u8>,
     pub length: usize,
+    pub rv: u64,
 }
 
-/// A NL QM BITS OUTLEN.
+/// A NL QM BITS OUTLEN rv=0.
 pub fn receiving(given: &mut Given) -> Receiving {
     Receiving {
         a: given.number(),
@@ -60,6 +65,7 @@ pub fn receiving(given: &mut Given) -> Receiving {
         order: given.number(),
         bits: given.octets(),
         length: given.length(),
+        rv: given.number_of("rv"),
     }
 }
 

@@ -1,6 +1,6 @@
-//! `send RECORD BLOCK NL QM G OUTLEN`: the radio bits of a transport block.
+//! `send RECORD BLOCK NL QM G OUTLEN rv=0`: the radio bits of a transport block.
 
-use super::parts::{hex_of_bits, sending, written};
+use super::parts::{hex_of_bits, sending, written, VERSION};
 use super::Kind;
 use crate::errors::Fault;
 use crate::form::{Form, Given, Word};
@@ -19,7 +19,7 @@ pub const KIND: Kind = Kind {
             Word::Number,
             Word::Length,
         ],
-        options: &[],
+        options: &[VERSION],
     },
     answer,
     makers: SEND,

@@ -6,14 +6,15 @@ use crate::generate::records::{good, small};
 use crate::matrix::Row;
 use crate::numbers::{Number, NO_BIT, OUTPUT, PARAMETER, RECORD, STAIRCASE};
 use crate::random::Random;
-use crate::record::{profile, Entry, Profile, Table};
+use crate::record::{profile, Coding, Entry, Profile, Table};
 use crate::samples::{
-    binary, bits, five_sixths, half, no_staircase, not_well_formed, plain, FIVE, FIVE_WORD, TOY,
+    binary, bits, five_sixths, half, no_staircase, not_well_formed, plain, plain_extended,
+    EXTENDED, FIVE, FIVE_WORD, TOY,
 };
 
 /// Codes with room enough.
 fn coded(record: &[u8], z: u64, places: &[u8]) -> Result<Vec<u8>, Number> {
-    let mut output = vec![0; 3000];
+    let mut output = vec![0; 5000];
     let count = encode(record, z, places, &mut output)?;
     output.truncate(count);
     Ok(output)
@@ -21,7 +22,7 @@ fn coded(record: &[u8], z: u64, places: &[u8]) -> Result<Vec<u8>, Number> {
 
 /// Sums with room enough.
 fn summed(record: &[u8], z: u64, word: &[u8]) -> Result<Vec<u8>, Number> {
-    let mut output = vec![7; 1000];
+    let mut output = vec![7; 3300];
     let count = sums(record, z, word, &mut output)?;
     output.truncate(count);
     Ok(output)
@@ -164,7 +165,7 @@ fn a_word_checks_when_all_its_sums_are_0() {
             word = bits(word.len(), &mut random);
         }
         let sums = summed(&draft.octets(), u64::from(z), &word).unwrap();
-        let checks = sums == vec![0; usize::from(draft.m * z)];
+        let checks = sums == vec![0; usize::from((draft.m + draft.x) * z)];
         assert_eq!(check(&draft.octets(), u64::from(z), &word), Ok(checks));
         counts[usize::from(checks)] += 1;
     }
@@ -290,6 +291,8 @@ fn without_the_staircase_a_block_may_have_no_parity_bits() {
     let profile = Profile {
         kb: 1,
         m: 1,
+        x: 0,
+        coding: Coding::One,
         tables: vec![table],
     };
     assert!(!Code::new(&profile, 2).parity.have_a_solution());
@@ -416,4 +419,81 @@ fn the_lowest_number_is_answered() {
     assert_eq!(sums(&TOY, 2, &[9], 0), Err(PARAMETER));
     assert_eq!(sums(&TOY, 2, &[9; 8], 5), Err(OUTPUT));
     assert_eq!(sums(&TOY, 2, &[9; 8], 6), Err(NO_BIT));
+}
+
+#[test]
+fn a_word_of_type_2() {
+    // Document 02, CR 3: "places 112 give 112000110101011".
+    let word = [1, 1, 2, 0, 0, 0, 1, 1, 0, 1, 0, 1, 0, 1, 1];
+    assert_eq!(coded(&EXTENDED, 3, &[1, 1, FILLER]), Ok(word.to_vec()));
+    let read: Vec<u8> = word.iter().map(|place| place % FILLER).collect();
+    assert_eq!(check(&EXTENDED, 3, &read), Ok(true));
+    assert_eq!(summed(&EXTENDED, 3, &read), Ok(vec![0; 12]));
+    // Of the last group every bit stands in one row alone, that of its own.
+    for i in 0..3 {
+        let mut odd = vec![0; 12];
+        odd[9 + i] = 1;
+        assert_eq!(summed(&EXTENDED, 3, &changed(&read, 12 + i)), Ok(odd));
+        assert_eq!(check(&EXTENDED, 3, &changed(&read, 12 + i)), Ok(false));
+    }
+    // Group 1 is column kb: rows 0 and 2 with shift 1, row 1 with shift 0, and the extension with shift 2.
+    let sums = summed(&EXTENDED, 3, &changed(&read, 3)).unwrap();
+    assert_eq!(sums, [0, 0, 1, 1, 0, 0, 0, 0, 1, 0, 1, 0]);
+}
+
+#[test]
+fn extension_groups_are_worked_out_one_by_one() {
+    // Kb 1, m 3, x 2, z 2: a row m+i says what its last group is.
+    let record = plain_extended(1, 3, 2, &[2]).octets();
+    for number in 0..4 {
+        let word = coded(&record, 2, &binary(number, 2)).unwrap();
+        assert_eq!(word.len(), 12);
+        // Row 3 has shift 1 in columns 0 and 2, row 4 in 0, 2 and 4.
+        let at = |group: usize, i: usize| word[2 * group + (i + 1) % 2];
+        for i in 0..2 {
+            let first = (at(0, i) + at(2, i)) % 2;
+            assert_eq!(word[8 + i], first);
+            assert_eq!(word[10 + i], (first + at(4, i)) % 2);
+        }
+    }
+}
+
+#[test]
+fn the_staircase_part_is_as_without_the_extension() {
+    let mut random = Random::new(11);
+    for (m, x, z) in [(3, 1, 2), (4, 5, 3), (12, 28, 2), (3, 37, 5)] {
+        let alone = plain(2, m, &[z]).octets();
+        let record = plain_extended(2, m, x, &[z]).octets();
+        let places = bits(usize::from(2 * z), &mut random);
+        let left = coded(&alone, u64::from(z), &places).unwrap();
+        let word = coded(&record, u64::from(z), &places).unwrap();
+        assert_eq!(word.len(), usize::from((2 + m + x) * z));
+        assert_eq!(word[..left.len()], left);
+        assert_eq!(check(&record, u64::from(z), &word), Ok(true));
+    }
+}
+
+#[test]
+fn words_and_sums_have_the_lengths_of_the_extended_table() {
+    for length in [0, 11, 12, 14, 16] {
+        assert_eq!(check(&EXTENDED, 3, &vec![0; length]), Err(PARAMETER));
+        assert_eq!(summed(&EXTENDED, 3, &vec![0; length]), Err(PARAMETER));
+    }
+    assert_eq!(coded(&EXTENDED, 3, &[0; 4]), Err(PARAMETER));
+    assert_eq!(encode(&EXTENDED, 3, &[0; 3], &mut [0; 14]), Err(OUTPUT));
+    assert_eq!(encode(&EXTENDED, 3, &[0; 3], &mut [0; 15]), Ok(15));
+    assert_eq!(sums(&EXTENDED, 3, &[0; 15], &mut [0; 11]), Err(OUTPUT));
+    assert_eq!(sums(&EXTENDED, 3, &[0; 15], &mut [0; 12]), Ok(12));
+}
+
+#[test]
+fn a_block_of_full_size_has_its_parity_bits() {
+    let record = plain_extended(20, 4, 36, &[81]).octets();
+    let mut random = Random::new(12);
+    let places = bits(1620, &mut random);
+    let word = coded(&record, 81, &places).unwrap();
+    assert_eq!(word.len(), 4860);
+    assert_eq!(check(&record, 81, &word), Ok(true));
+    assert_eq!(summed(&record, 81, &word), Ok(vec![0; 3240]));
+    assert_eq!(check(&record, 81, &changed(&word, 4859)), Ok(false));
 }

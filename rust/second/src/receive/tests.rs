@@ -5,36 +5,49 @@ use std::ops::RangeInclusive;
 use super::receive;
 use crate::numbers::{
     Number, BLOCK_LENGTH, FEW_PLACES, MANY_BLOCKS, NO_BIT, OUTPUT, PARAMETER, RECORD, SHORT_SHARE,
-    STAIRCASE, UNSENT,
+    STAIRCASE, UNSENT, VERSION,
 };
 use crate::octets::unpacked;
 use crate::random::Random;
 use crate::samples::{
-    bits_of_hex, five_sixths, half, no_staircase, not_well_formed, plain, TOY, TOY_SENT,
+    bits_of_hex, five_sixths, half, no_staircase, not_well_formed, plain, plain_extended, EXTENDED,
+    EXTENDED_SENT, TOY, TOY_SENT,
 };
 use crate::send::send;
 use crate::transfer::Asked;
 
 /// Receives with room enough.
-fn received(
+fn received(record: &[u8], a: u64, place: (u64, u64), bits: &[u8]) -> Result<Vec<u8>, Number> {
+    received_in(0, record, a, place, bits)
+}
+
+/// The same in a redundancy version.
+fn received_in(
+    rv: u64,
     record: &[u8],
     a: u64,
     (layers, order): (u64, u64),
     bits: &[u8],
 ) -> Result<Vec<u8>, Number> {
     let mut output = vec![0; 2048];
-    let count = receive(record, a, layers, order, bits, &mut output)?;
+    let count = receive(record, a, layers, order, rv, bits, &mut output)?;
     output.truncate(count);
     Ok(output)
 }
 
 /// The bits of a block that is sent.
-fn sent(record: &[u8], block: &[u8], (layers, order): (u64, u64), g: usize) -> Vec<u8> {
+fn sent(record: &[u8], block: &[u8], place: (u64, u64), g: usize) -> Vec<u8> {
+    sent_in(0, record, block, place, g)
+}
+
+/// The same in a redundancy version.
+fn sent_in(rv: u64, record: &[u8], block: &[u8], (layers, order): (u64, u64), g: usize) -> Vec<u8> {
     let mut output = vec![0; g];
     let asked = Asked {
         layers,
         order,
         g: g as u64,
+        rv,
     };
     assert_eq!(send(record, block, asked, &mut output), Ok(g));
     output
@@ -341,12 +354,12 @@ fn the_output_has_room_for_the_octets() {
     let bits = sent(&TOY, &[1, 2, 3], (1, 2), 192);
     for length in 0..3 {
         let mut output = vec![7; length];
-        let number = receive(&TOY, 24, 1, 2, &bits, &mut output);
+        let number = receive(&TOY, 24, 1, 2, 0, &bits, &mut output);
         assert_eq!(number, Err(OUTPUT));
         assert_eq!(output, vec![7; length]);
     }
     let mut output = [7; 5];
-    assert_eq!(receive(&TOY, 24, 1, 2, &bits, &mut output), Ok(3));
+    assert_eq!(receive(&TOY, 24, 1, 2, 0, &bits, &mut output), Ok(3));
     assert_eq!(output, [1, 2, 3, 7, 7]);
 }
 
@@ -356,14 +369,14 @@ fn a_refusal_changes_nothing() {
     let mut bits = sent(&TOY, &[1, 2, 3], (1, 2), 192);
     bits[191] = 1 - bits[191];
     let mut output = [7; 5];
-    assert_eq!(receive(&TOY, 24, 1, 2, &bits, &mut output), Err(UNSENT));
+    assert_eq!(receive(&TOY, 24, 1, 2, 0, &bits, &mut output), Err(UNSENT));
     assert_eq!(output, [7; 5]);
 }
 
 #[test]
 fn the_lowest_number_is_answered() {
     let receive = |record: &[u8], a, layers, bits: &[u8], length: usize| {
-        receive(record, a, layers, 2, bits, &mut vec![0; length])
+        receive(record, a, layers, 2, 0, bits, &mut vec![0; length])
     };
     assert_eq!(receive(&not_well_formed(), 9, 0, &[9], 0), Err(RECORD));
     assert_eq!(receive(&no_staircase(), 9, 0, &[9], 0), Err(STAIRCASE));
@@ -376,4 +389,104 @@ fn the_lowest_number_is_answered() {
     assert_eq!(receive(&TOY, 8, 1, &[9; 32], 1), Err(NO_BIT));
     assert_eq!(receive(&TOY, 8, 1, &[1; 32], 1), Err(SHORT_SHARE));
     assert_eq!(receive(&TOY, 8, 1, &[1; 128], 1), Err(UNSENT));
+}
+
+#[test]
+fn octet_a5_in_each_version() {
+    // Document 02, CR 3: "receiver and sender using the same one".
+    for (rv, hex) in (0..).zip(EXTENDED_SENT) {
+        let bits = bits_of_hex(hex, 176);
+        for other in 0..4 {
+            let received = received_in(other, &EXTENDED, 8, (1, 2), &bits);
+            let expected = if other == rv {
+                Ok(vec![0xa5])
+            } else {
+                Err(UNSENT)
+            };
+            assert_eq!(received, expected, "{rv} {other}");
+        }
+        assert_eq!(received_in(4, &EXTENDED, 8, (1, 2), &bits), Err(VERSION));
+    }
+}
+
+#[test]
+fn every_changed_bit_is_noticed_in_each_version() {
+    // G 176 gives each of eleven blocks 16 bits for its 15 or 14 places.
+    for (rv, hex) in (0..).zip(EXTENDED_SENT) {
+        let bits = bits_of_hex(hex, 176);
+        for place in 0..176 {
+            let mut changed = bits.clone();
+            changed[place] = 1 - changed[place];
+            let received = received_in(rv, &EXTENDED, 8, (1, 2), &changed);
+            assert_eq!(received, Err(UNSENT), "{rv} {place}");
+        }
+    }
+}
+
+#[test]
+fn what_was_sent_in_a_version_is_received_in_it() {
+    let mut random = Random::new(3);
+    for (record, lengths, place, shares) in [
+        (
+            plain_extended(1, 3, 2, &[2]).octets(),
+            &[1, 13][..],
+            (1, 2),
+            [12, 14, 26],
+        ),
+        // One block of 32 or 40 bits, K 96: rv 1 starts inside filler.
+        (
+            plain_extended(6, 3, 3, &[16]).octets(),
+            &[1, 2, 9],
+            (1, 2),
+            [192, 194, 400],
+        ),
+        (
+            plain_extended(2, 4, 36, &[3, 5]).octets(),
+            &[1, 2],
+            (2, 2),
+            [212, 216, 500],
+        ),
+    ] {
+        for &length in lengths {
+            let block = octets(length, &mut random);
+            let a = 8 * length as u64;
+            let blocks = crate::plan::plan(&record, length as u64).unwrap().c;
+            for share in shares {
+                for rv in 0..4 {
+                    let bits = sent_in(rv, &record, &block, place, share * blocks);
+                    let received = received_in(rv, &record, a, place, &bits);
+                    assert_eq!(received, Ok(block.clone()), "{rv}");
+                }
+            }
+        }
+    }
+}
+
+#[test]
+fn filler_that_a_version_starts_in_is_not_sent() {
+    // Of 192 places 64 are filler: 128 bits have room, and 126 have not, whatever the version.
+    let record = plain_extended(6, 3, 3, &[16]).octets();
+    for rv in 0..4 {
+        let bits = sent_in(rv, &record, &[0x5a], (1, 2), 128);
+        assert_eq!(received_in(rv, &record, 8, (1, 2), &bits), Ok(vec![0x5a]));
+        let bits = sent_in(rv, &record, &[0x5a], (1, 2), 126);
+        assert_eq!(received_in(rv, &record, 8, (1, 2), &bits), Err(SHORT_SHARE));
+    }
+}
+
+#[test]
+fn the_version_is_tested_between_7_and_8() {
+    let receive = |record: &[u8], a, layers, rv, bits: &[u8]| {
+        receive(record, a, layers, 2, rv, bits, &mut [])
+    };
+    assert_eq!(receive(&not_well_formed(), 9, 0, 4, &[9]), Err(RECORD));
+    assert_eq!(receive(&no_staircase(), 9, 0, 4, &[9]), Err(STAIRCASE));
+    assert_eq!(receive(&EXTENDED, 9, 0, 4, &[9]), Err(BLOCK_LENGTH));
+    assert_eq!(receive(&EXTENDED, 8, 0, 4, &[9]), Err(VERSION));
+    assert_eq!(receive(&TOY, 8, 0, 1, &[9]), Err(VERSION));
+    assert_eq!(receive(&TOY, 8, 0, 0, &[9]), Err(PARAMETER));
+    assert_eq!(receive(&EXTENDED, 8, 0, 3, &[9]), Err(PARAMETER));
+    assert_eq!(receive(&EXTENDED, 2048, 1, 3, &[9; 2]), Err(MANY_BLOCKS));
+    assert_eq!(receive(&EXTENDED, 8, 1, 3, &[9; 20]), Err(FEW_PLACES));
+    assert_eq!(receive(&EXTENDED, 8, 1, 3, &[9; 22]), Err(OUTPUT));
 }

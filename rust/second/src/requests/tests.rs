@@ -1,6 +1,6 @@
 use crate::errors::Fault;
 use crate::form::Value;
-use crate::kinds::KINDS;
+use crate::kinds::{Kind, KINDS};
 use crate::lines::LINE_ROOM;
 use crate::words::{BITS_ROOM, BLOCK_ROOM, SHELF_ROOM};
 
@@ -196,7 +196,9 @@ fn any_words(name: &str) -> Vec<String> {
 
 #[test]
 fn no_other_request_has_an_optional_word() {
-    for kind in KINDS.iter().filter(|kind| !CHECKING.contains(&kind.name)) {
+    let has_none = |kind: &&Kind| kind.form.options.is_empty();
+    assert_eq!(KINDS.iter().filter(has_none).count(), 10);
+    for kind in KINDS.iter().filter(has_none) {
         let line = any_words(kind.name).join(" ");
         let read = |ending: &str| request([&line, ending].concat().as_bytes());
         assert!(read("").is_ok(), "{line}");
@@ -241,9 +243,9 @@ fn a_checker_is_one_of_the_two_and_is_asked_for_once() {
             "by=Plain",
             "by=plain=",
             "BY=plain",
-            "rv=0",
-            "by=plain rv=0",
-            "rv=0 by=plain",
+            "ed=1",
+            "by=plain ed=1",
+            "ed=1 by=plain",
             "by=plain by=plain",
             "by=quick by=plain",
             "by=slow by=plain",
@@ -254,6 +256,70 @@ fn a_checker_is_one_of_the_two_and_is_asked_for_once() {
             assert_eq!(request(line.as_bytes()), Err(Fault::Words), "{line}");
         }
     }
+}
+
+#[test]
+fn a_version_is_asked_for() {
+    for kind in KINDS {
+        let line = any_words(kind.name).join(" ");
+        let read = |ending: &str| super::request([&line, ending].concat().as_bytes());
+        if !["rate", "send", "recv", "hsend", "hrecv"].contains(&kind.name) {
+            assert_eq!(read(" rv=0").err(), Some(Fault::Words), "{line}");
+            continue;
+        }
+        for (ending, rv) in [
+            ("", 0),
+            (" rv=0", 0),
+            (" rv=3", 3),
+            (" rv=007", 7),
+            (" rv=2 # rv=1", 2),
+            (" rv=18446744073709551615", u64::MAX),
+        ] {
+            let (_, given) = read(ending).unwrap().unwrap();
+            assert_eq!(given.number_of("rv"), rv, "{line}{ending}");
+        }
+        for ending in [
+            " rv=",
+            " rv=-",
+            " rv=q",
+            " rv=1=",
+            " rv=18446744073709551616",
+        ] {
+            assert_eq!(read(ending).err(), Some(Fault::Number), "{line}{ending}");
+        }
+        for ending in [" rv=1 rv=1", " RV=1", " rv", " rv=1 ed=1", " ed=1 rv=q"] {
+            assert_eq!(read(ending).err(), Some(Fault::Words), "{line}{ending}");
+        }
+        // Only a rate has a type, and only receiving a checker.
+        let has = |name: &str, holds: bool| (read(name).is_ok(), holds);
+        for (left, right) in [
+            has(" type=2 rv=1", kind.name == "rate"),
+            has(" rv=1 type=2", kind.name == "rate"),
+            has(" by=plain rv=1", kind.name.ends_with("recv")),
+            has(" rv=1 by=plain", kind.name.ends_with("recv")),
+        ] {
+            assert_eq!(left, right, "{line}");
+        }
+    }
+}
+
+#[test]
+fn a_type_is_1_where_it_is_left_out() {
+    for (ending, coding, rv) in [
+        ("", 1, 0),
+        (" type=2", 2, 0),
+        (" rv=3 type=0", 0, 3),
+        (" type=18446744073709551615 rv=4", u64::MAX, 4),
+    ] {
+        let line = format!("rate 0 0 0{ending}");
+        let (_, given) = super::request(line.as_bytes()).unwrap().unwrap();
+        assert_eq!(
+            (given.number_of("type"), given.number_of("rv")),
+            (coding, rv)
+        );
+    }
+    assert_eq!(request(b"rate 0 0 0 type=q rv="), Err(Fault::Number));
+    assert_eq!(request(b"rate 0 0 0 type=1 type=1"), Err(Fault::Words));
 }
 
 #[test]

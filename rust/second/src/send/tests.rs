@@ -3,18 +3,29 @@
 use super::send;
 use crate::checksum::with_checksum;
 use crate::numbers::{
-    Number, BLOCK_LENGTH, FEW_PLACES, MANY_BLOCKS, OUTPUT, PARAMETER, RECORD, STAIRCASE,
+    Number, BLOCK_LENGTH, FEW_PLACES, MANY_BLOCKS, OUTPUT, PARAMETER, RECORD, STAIRCASE, VERSION,
 };
 use crate::octets::{packed, unpacked};
 use crate::parity::{check, encode};
 use crate::random::Random;
 use crate::samples::{
-    bits_of_hex, five_sixths, half, no_staircase, not_well_formed, plain, TOY, TOY_SENT,
+    bits_of_hex, five_sixths, half, no_staircase, not_well_formed, plain, plain_extended, EXTENDED,
+    EXTENDED_SENT, TOY, TOY_SENT,
 };
 use crate::transfer::Asked;
 
 fn asked(layers: u64, order: u64, g: u64) -> Asked {
-    Asked { layers, order, g }
+    Asked {
+        layers,
+        order,
+        g,
+        rv: 0,
+    }
+}
+
+/// The same in a redundancy version.
+fn with_version(rv: u64, asked: Asked) -> Asked {
+    Asked { rv, ..asked }
 }
 
 /// Sends with room enough.
@@ -235,4 +246,105 @@ fn the_lowest_number_is_answered() {
     assert_eq!(send(&TOY, 14, asked(1, 2, 2)), Err(MANY_BLOCKS));
     assert_eq!(send(&TOY, 13, asked(1, 2, 2)), Err(FEW_PLACES));
     assert_eq!(send(&TOY, 13, asked(1, 2, 128)), Err(OUTPUT));
+}
+
+#[test]
+fn octet_a5_in_each_version() {
+    // Document 02, CR 3.
+    for (rv, hex) in (0..).zip(EXTENDED_SENT) {
+        let asked = with_version(rv, asked(1, 2, 176));
+        let bits = sent(&EXTENDED, &[0xa5], asked);
+        assert_eq!(bits, Ok(bits_of_hex(hex, 176)), "{rv}");
+    }
+    // "rv 4: 16, with an empty block 7, with N_L 9 16".
+    let four = with_version(4, asked(1, 2, 176));
+    assert_eq!(sent(&EXTENDED, &[0xa5], four), Err(VERSION));
+    assert_eq!(sent(&EXTENDED, &[], four), Err(BLOCK_LENGTH));
+    let nine = with_version(4, asked(9, 2, 176));
+    assert_eq!(sent(&EXTENDED, &[0xa5], nine), Err(VERSION));
+}
+
+#[test]
+fn type_1_has_version_0_alone() {
+    assert!(sent(&TOY, &[0x01], asked(1, 2, 128)).is_ok());
+    for rv in [1, 2, 3, 4, 1 << 32, u64::MAX] {
+        let asked = with_version(rv, asked(1, 2, 128));
+        assert_eq!(sent(&TOY, &[0x01], asked), Err(VERSION), "{rv}");
+    }
+}
+
+#[test]
+fn type_2_without_an_extension_has_versions_all_the_same() {
+    // The toy as a record of Type 2: D is 8, so rv 1 starts at the third place of each word.
+    let mut record = TOY;
+    record[7] = 2;
+    let first = sent(&record, &[0xc0], asked(1, 2, 128)).unwrap();
+    assert_eq!(Ok(first.clone()), sent(&TOY, &[0xc0], asked(1, 2, 128)));
+    for (rv, turned) in [(1, 2), (2, 4), (3, 6)] {
+        let bits = sent(&record, &[0xc0], with_version(rv, asked(1, 2, 128))).unwrap();
+        for (word, other) in first.chunks(8).zip(bits.chunks(8)) {
+            assert_eq!([&word[turned..], &word[..turned]].concat(), other);
+        }
+    }
+}
+
+#[test]
+fn a_version_may_start_inside_filler() {
+    // Kb 6, m 3, x 3, z 16: 32 bits of K 96, D 192. Places 48 and 96 are the starts of rv 1 and 2, and
+    // places 32 to 95 are filler: either begins with the first parity bit.
+    let record = plain_extended(6, 3, 3, &[16]).octets();
+    let first = sent(&record, &[0x5a], asked(1, 2, 128)).unwrap();
+    let parity = [&first[32..], &first[..32]].concat();
+    for rv in [1, 2] {
+        let bits = sent(&record, &[0x5a], with_version(rv, asked(1, 2, 128)));
+        assert_eq!(bits, Ok(parity.clone()), "{rv}");
+    }
+    // Place 144 is parity bit 48, after the own 32 bits the 80th that is kept.
+    let bits = sent(&record, &[0x5a], with_version(3, asked(1, 2, 128)));
+    assert_eq!(bits, Ok([&first[80..], &first[..80]].concat()));
+}
+
+#[test]
+fn the_version_is_tested_between_7_and_8() {
+    let send = |record: &[u8], count: usize, asked| send(record, &vec![0; count], asked, &mut []);
+    let bad = with_version(4, asked(0, 2, 2));
+    assert_eq!(send(&not_well_formed(), 0, bad), Err(RECORD));
+    assert_eq!(send(&no_staircase(), 0, bad), Err(STAIRCASE));
+    for count in [0, 2049] {
+        assert_eq!(send(&EXTENDED, count, bad), Err(BLOCK_LENGTH));
+    }
+    assert_eq!(send(&EXTENDED, 2048, bad), Err(VERSION));
+    assert_eq!(
+        send(&TOY, 2048, with_version(1, asked(0, 2, 2))),
+        Err(VERSION)
+    );
+    let good = |asked| with_version(3, asked);
+    assert_eq!(send(&EXTENDED, 2048, good(asked(0, 2, 2))), Err(PARAMETER));
+    assert_eq!(
+        send(&EXTENDED, 2048, good(asked(1, 2, 2))),
+        Err(MANY_BLOCKS)
+    );
+    assert_eq!(send(&EXTENDED, 1, good(asked(1, 2, 2))), Err(FEW_PLACES));
+    assert_eq!(send(&EXTENDED, 1, good(asked(1, 2, 22))), Err(OUTPUT));
+}
+
+#[test]
+fn the_longest_block_at_full_size() {
+    // Kb 20, m 4, x 36, z 81: 11 blocks of 1,492 or 1,491 bits, D 4,860, so that rv 2 starts at place 2,430.
+    let record = plain_extended(20, 4, 36, &[81]).octets();
+    let mut random = Random::new(5);
+    let block = octets(2048, &mut random);
+    let word = with_checksum(&unpacked(&block));
+    let bits = sent(&record, &block, with_version(2, asked(1, 2, 65_536))).unwrap();
+    // 32,768 symbol places are 11 · 2,978 and 10.
+    let (share, own) = (2 * 2979, 1492);
+    let unmarked = own + 40 * 81;
+    let first = &bits[..share];
+    assert_eq!(first[unmarked..], first[..share - unmarked]);
+    // Behind place 2,430 there are 2,430 places, all parity, and then the block's own bits.
+    let carried = &first[2430..2430 + own];
+    assert_eq!(carried, &word[..own]);
+    let parity = [&first[2430 + own..unmarked], &first[..2430]].concat();
+    let filled = [carried, &vec![0; 1620 - own], &parity].concat();
+    assert_eq!(check(&record, 81, &filled), Ok(true));
 }

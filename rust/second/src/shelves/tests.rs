@@ -5,19 +5,29 @@ use std::path::{Path, PathBuf};
 
 use super::text::{self, Fault};
 use super::{make, SHELVES};
-use crate::record::profile;
-use crate::samples::{five_sixths, TOY};
+use crate::record::{profile, Coding};
+use crate::samples::{five_sixths, EXTENDED, TOY};
 use crate::shelf::{lookup, Asked, Side};
 
 /// The toy record of document 01, as the text of a public shelf.
 const TOY_TEXT: &str = "\
 # The toy.
-tenant 0 profile 7 kb 1 m 3
+tenant 0 profile 7 kb 1 m 3 x 0 type 1
 
 z 2 # its only size
 0  1 0 -
 1  0 0 0
 -  1 - 0
+";
+
+/// The record of Type 2 of document 02, CR 3.
+const EXTENDED_TEXT: &str = "\
+tenant 0 profile 9 kb 1 m 3 x 1 type 2
+z 3
+0  1 0 -  -
+2  0 0 0  -
+1  1 - 0  -
+-  2 - 1  0
 ";
 
 /// A folder that is empty at first, for one test.
@@ -51,7 +61,7 @@ fn with_line(line: usize, changed: &str) -> String {
 
 #[test]
 fn a_text_gives_its_shelf() {
-    let entry = [0, 1, 0, 0, 0, 7, 0, 10, 0, 22];
+    let entry = [0, 1, 0, 0, 0, 7, 0, 10, 0, 26];
     assert_eq!(public(TOY_TEXT), Ok([&entry[..], &TOY].concat()));
 }
 
@@ -93,27 +103,27 @@ fn a_tenant_belongs_to_its_side() {
 fn numbers_keep_to_their_ranges() {
     for (changed, what) in [
         (
-            "tenant 0 profile 65536 kb 1 m 3",
+            "tenant 0 profile 65536 kb 1 m 3 x 0 type 1",
             "the profile number is `65536`, and has to be a number from 0 to 65535",
         ),
         (
-            "tenant 0 profile 7 kb 0 m 3",
+            "tenant 0 profile 7 kb 0 m 3 x 0 type 1",
             "kb is `0`, and has to be a number from 1 to 20",
         ),
         (
-            "tenant 0 profile 7 kb 21 m 3",
+            "tenant 0 profile 7 kb 21 m 3 x 0 type 1",
             "kb is `21`, and has to be a number from 1 to 20",
         ),
         (
-            "tenant 0 profile 7 kb 1 m 2",
+            "tenant 0 profile 7 kb 1 m 2 x 0 type 1",
             "m is `2`, and has to be a number from 3 to 12",
         ),
         (
-            "tenant 0 profile 7 kb 1 m 13",
+            "tenant 0 profile 7 kb 1 m 13 x 0 type 1",
             "m is `13`, and has to be a number from 3 to 12",
         ),
         (
-            "tenant 0 profile 7 kb 1 m three",
+            "tenant 0 profile 7 kb 1 m three x 0 type 1",
             "m is `three`, and has to be a number from 3 to 12",
         ),
     ] {
@@ -133,8 +143,8 @@ fn numbers_keep_to_their_ranges() {
 #[test]
 fn a_row_has_its_numbers_and_shifts_are_below_z() {
     for (changed, what) in [
-        ("0 0 0", "row 1 has 3 numbers, and kb + m is 4"),
-        ("0 0 0 0 -", "row 1 has 5 numbers, and kb + m is 4"),
+        ("0 0 0", "row 1 has 3 numbers, and kb + m + x is 4"),
+        ("0 0 0 0 -", "row 1 has 5 numbers, and kb + m + x is 4"),
         (
             "2 0 0 0",
             "a shift is `2`, and has to be a number from 0 to 1",
@@ -145,11 +155,11 @@ fn a_row_has_its_numbers_and_shifts_are_below_z() {
         ),
         (
             "-1 0 0 0",
-            "`-1` begins no row, and no `tenant .. profile .. kb .. m ..` or `z ..` either",
+            "`-1` begins no row, and no `tenant .. profile .. kb .. m .. x .. type ..` or `z ..` either",
         ),
         (
-            "tenant 0 profile 8 kb 1",
-            "`tenant` begins no row, and no `tenant .. profile .. kb .. m ..` or `z ..` either",
+            "tenant 0 profile 8 kb 1 m 3",
+            "`tenant` begins no row, and no `tenant .. profile .. kb .. m .. x .. type ..` or `z ..` either",
         ),
     ] {
         assert_eq!(public(&with_line(6, changed)), fault(6, what));
@@ -158,16 +168,16 @@ fn a_row_has_its_numbers_and_shifts_are_below_z() {
 
 #[test]
 fn a_table_has_its_rows_and_is_a_staircase() {
-    let few = "the table has 2 rows, and m is 3";
+    let few = "the table has 2 rows, and m + x is 3";
     assert_eq!(public(&with_line(7, "")), fault(4, few));
     assert_eq!(public(&with_line(7, "z 3")), fault(4, few));
     assert_eq!(
-        public(&with_line(7, "tenant 0 profile 8 kb 1 m 3")),
+        public(&with_line(7, "tenant 0 profile 8 kb 1 m 3 x 0 type 1")),
         fault(4, few)
     );
     assert_eq!(
         public(&format!("{TOY_TEXT}- - - -")),
-        fault(8, "a row too many: m is 3")
+        fault(8, "a row too many: m + x is 3")
     );
     for changed in ["-  0 - 0", "-  1 0 0", "-  - - 0", "-  1 - -"] {
         assert_eq!(
@@ -202,17 +212,17 @@ fn parts_stand_in_their_order() {
         ("\nz 2", 2, "a table stands before the first record"),
         ("0 0", 1, "a row stands before the first record"),
         (
-            "tenant 0 profile 7 kb 1 m 3\n- 1 0 -",
+            "tenant 0 profile 7 kb 1 m 3 x 0 type 1\n- 1 0 -",
             2,
             "a row stands before the record's first `z ..`",
         ),
         (
-            "tenant 0 profile 7 kb 1 m 3\n",
+            "tenant 0 profile 7 kb 1 m 3 x 0 type 1\n",
             1,
             "the record has no table",
         ),
         (
-            "tenant 0 profile 7 kb 1 m 3\ntenant 0 profile 8 kb 1 m 3\n",
+            "tenant 0 profile 7 kb 1 m 3 x 0 type 1\ntenant 0 profile 8 kb 1 m 3 x 0 type 1\n",
             1,
             "the record has no table",
         ),
@@ -252,7 +262,9 @@ fn many(count: usize, m: usize) -> String {
     };
     let rows: String = (0..m).map(row).collect();
     let record = |profile: usize| {
-        format!("tenant 0 profile {profile} kb 20 m {m}\nz 1\n{rows}z 2\n{rows}z 3\n{rows}")
+        format!(
+            "tenant 0 profile {profile} kb 20 m {m} x 0 type 1\nz 1\n{rows}z 2\n{rows}z 3\n{rows}"
+        )
     };
     (0..count).map(record).collect()
 }
@@ -268,19 +280,19 @@ fn a_shelf_has_at_most_64_records() {
 
 #[test]
 fn a_shelf_has_at_most_65_535_octets() {
-    // 2 + 55 · (8 + 18 + 3 · 12 · 32) octets fit, and 56 records do not.
-    assert_eq!(public(&many(55, 12)).unwrap().len(), 64_792);
+    // 2 + 55 · (8 + 22 + 3 · 12 · 32) octets fit, and 56 records do not.
+    assert_eq!(public(&many(55, 12)).unwrap().len(), 65_012);
     assert_eq!(
         public(&many(56, 12)),
         fault(
             55 * 40 + 1,
-            "with this record the shelf has 65970 octets, and it may have 65535"
+            "with this record the shelf has 66194 octets, and it may have 65535"
         )
     );
 }
 
 #[test]
-fn both_shelves_are_written_and_faults_name_the_file() {
+fn all_shelves_are_written_and_faults_name_the_file() {
     let folder = folder("shelves");
     let private = TOY_TEXT.replace("tenant 0", "tenant 1");
     fs::write(folder.join("public.txt"), TOY_TEXT).unwrap();
@@ -297,10 +309,16 @@ fn both_shelves_are_written_and_faults_name_the_file() {
     );
     assert!(!folder.join("public.shelf").exists());
     fs::write(&file, &private).unwrap();
+    let missing = make(&folder, &folder).unwrap_err().to_string();
+    let file = folder.join("trial.txt");
+    assert!(missing.starts_with(&format!("{}: ", file.display())));
+    assert!(!folder.join("public.shelf").exists());
+    fs::write(&file, EXTENDED_TEXT).unwrap();
     make(&folder, &folder).unwrap();
     for (side, name, text) in [
         (Side::Public, "public.shelf", TOY_TEXT),
         (Side::Private, "private.shelf", &private),
+        (Side::Public, "trial.shelf", EXTENDED_TEXT),
     ] {
         let made = fs::read(folder.join(name)).unwrap();
         assert_eq!(Ok(made), text::shelf(text, side));
@@ -357,4 +375,86 @@ fn the_repositorys_records_are_accepted_profiles() {
 fn rate_five_sixths_is_the_sample_that_was_copied_apart() {
     let (_, record) = shipped_record(1, 56).unwrap();
     assert_eq!(record, five_sixths().octets());
+}
+
+#[test]
+fn a_text_of_type_2_gives_its_shelf() {
+    let entry = [0, 1, 0, 0, 0, 9, 0, 10, 0, 34];
+    assert_eq!(public(EXTENDED_TEXT), Ok([&entry[..], &EXTENDED].concat()));
+}
+
+#[test]
+fn x_and_type_keep_to_their_ranges() {
+    let head = |parts: &str| public(&format!("tenant 0 profile 9 kb 1 {parts}\nz 3"));
+    for (parts, what) in [
+        (
+            "m 3 x 38 type 2",
+            "x is `38`, and has to be a number from 0 to 37",
+        ),
+        (
+            "m 3 x - type 2",
+            "x is `-`, and has to be a number from 0 to 37",
+        ),
+        (
+            "m 3 x 0 type 0",
+            "the type is `0`, and has to be a number from 1 to 2",
+        ),
+        (
+            "m 3 x 0 type 3",
+            "the type is `3`, and has to be a number from 1 to 2",
+        ),
+        ("m 4 x 37 type 2", "m + x is 41, and at most 40"),
+        ("m 3 x 1 type 1", "x is 1, and in type 1 it is 0"),
+    ] {
+        assert_eq!(head(parts), fault(1, what));
+    }
+    let few = "the table has 0 rows, and m + x is 40";
+    assert_eq!(head("m 4 x 36 type 2"), fault(2, few));
+}
+
+#[test]
+fn an_extension_is_judged() {
+    let lines: Vec<&str> = EXTENDED_TEXT.lines().collect();
+    let with = |line: usize, changed: &str| {
+        let mut lines = lines.clone();
+        lines[line - 1] = changed;
+        public(&lines.join("\n"))
+    };
+    assert_eq!(
+        with(6, "-  2 - 1"),
+        fault(6, "row 3 has 4 numbers, and kb + m + x is 5")
+    );
+    assert_eq!(
+        with(6, ""),
+        fault(2, "the table has 3 rows, and m + x is 4")
+    );
+    for (line, changed) in [(3, "0  1 0 -  0"), (6, "-  2 - 1  1"), (6, "-  2 - 1  -")] {
+        assert_eq!(
+            with(line, changed),
+            fault(2, "the table is no staircase with extension")
+        );
+    }
+    assert!(with(6, "2  - 0 -  0").is_ok());
+}
+
+#[test]
+fn the_trial_shelf_has_one_table_of_type_2() {
+    let asked = Asked {
+        private: vec![0, 0],
+        public: fs::read(shipped().join("trial.shelf")).unwrap(),
+        tenant: 1,
+        profile: 13,
+    };
+    let found = lookup(&asked).unwrap();
+    assert_eq!(found.stretch, 10..7232);
+    let profile = profile(asked.octets(&found)).unwrap();
+    assert_eq!((profile.kb, profile.m, profile.x), (20, 4, 36));
+    assert_eq!(profile.coding, Coding::Two);
+    let sizes: Vec<usize> = profile.tables.iter().map(|table| table.z).collect();
+    assert_eq!(sizes, [27, 54, 81]);
+    // It is on no other shelf.
+    assert_eq!(shipped_record(1, 13), None);
+    let text = fs::read_to_string(shipped().join("trial.txt")).unwrap();
+    assert!(text.starts_with("# The trial shelf: a trial table"));
+    assert!(text.contains("Nobody stands for this table."));
 }

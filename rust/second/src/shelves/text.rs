@@ -26,12 +26,17 @@ impl Display for Fault {
 /// The tables of a record, at most ("t (1 to 3)").
 const MOST_TABLES: usize = 3;
 
+/// The rows of a table, at most ("m + x at most 40").
+const MOST_ROWS: u16 = 40;
+
 struct Record {
     line: usize,
     tenant: u16,
     profile: u16,
     kb: u16,
     m: u16,
+    x: u16,
+    coding: u16,
     tables: Vec<Table>,
 }
 
@@ -47,9 +52,9 @@ pub fn shelf(text: &str, side: Side) -> Result<Vec<u8>, Fault> {
     for (line, words) in (1..).zip(text.lines().map(words_of)) {
         let done = match words[..] {
             [] => Ok(()),
-            ["tenant", tenant, "profile", profile, "kb", kb, "m", m] => {
+            ["tenant", tenant, "profile", profile, "kb", kb, "m", m, "x", x, "type", coding] => {
                 finish(&records)?;
-                record(line, [tenant, profile, kb, m], side)
+                record(line, [tenant, profile, kb, m, x, coding], side)
                     .and_then(|record| put(&mut records, record))
             }
             ["z", z] => {
@@ -89,29 +94,52 @@ fn words_of(line: &str) -> Vec<&str> {
 
 impl Record {
     fn octets(&self) -> Vec<u8> {
-        let tables = self
-            .tables
-            .iter()
-            .map(|table| (table.z, table.rows.clone()));
-        Draft::new(self.kb, self.m, tables.collect()).octets()
+        self.octets_with(&self.tables)
+    }
+
+    /// The record with some of its tables.
+    fn octets_with(&self, tables: &[Table]) -> Vec<u8> {
+        let tables = tables.iter().map(|table| (table.z, table.rows.clone()));
+        Draft::of_type(self.coding, self.kb, self.m, self.x, tables.collect()).octets()
+    }
+
+    /// "a table has m + x rows of kb+m+x entries".
+    fn rows(&self) -> usize {
+        usize::from(self.m + self.x)
+    }
+
+    fn columns(&self) -> usize {
+        usize::from(self.kb) + self.rows()
     }
 }
 
 /// A record's first line.
-fn record(line: usize, words: [&str; 4], side: Side) -> Result<Record, String> {
-    let [tenant, profile, kb, m] = words;
+fn record(line: usize, words: [&str; 6], side: Side) -> Result<Record, String> {
+    let [tenant, profile, kb, m, x, coding] = words;
     let tenants = match side {
         Side::Private => 1..=u16::MAX,
         Side::Public => 0..=0,
     };
-    Ok(Record {
+    let record = Record {
         line,
         tenant: number("the tenant", tenant, tenants)?,
         profile: number("the profile number", profile, 0..=u16::MAX)?,
         kb: number("kb", kb, 1..=20)?,
         m: number("m", m, 3..=12)?,
+        x: number("x", x, 0..=37)?,
+        coding: number("the type", coding, 1..=2)?,
         tables: Vec::new(),
-    })
+    };
+    if record.m + record.x > MOST_ROWS {
+        return Err(format!(
+            "m + x is {}, and at most {MOST_ROWS}",
+            record.m + record.x
+        ));
+    }
+    if record.coding == 1 && record.x > 0 {
+        return Err(format!("x is {}, and in type 1 it is 0", record.x));
+    }
+    Ok(record)
 }
 
 /// Puts a record behind the others.
@@ -164,24 +192,24 @@ fn row(records: &mut [Record], words: &[&str]) -> Result<(), String> {
     let first = words[0];
     if first != "-" && words::short(first.as_bytes()).is_err() {
         return Err(format!(
-            "`{first}` begins no row, and no `tenant .. profile .. kb .. m ..` or `z ..` either"
+            "`{first}` begins no row, and no `tenant .. profile .. kb .. m .. x .. type ..` or `z ..` either"
         ));
     }
     let record = records
         .last_mut()
         .ok_or("a row stands before the first record")?;
+    let (due_rows, due) = (record.rows(), record.columns());
     let table = record
         .tables
         .last_mut()
         .ok_or("a row stands before the record's first `z ..`")?;
-    let (rows, due) = (table.rows.len(), usize::from(record.m));
-    if rows == due {
-        return Err(format!("a row too many: m is {due}"));
+    let rows = table.rows.len();
+    if rows == due_rows {
+        return Err(format!("a row too many: m + x is {due_rows}"));
     }
-    let due = usize::from(record.kb + record.m);
     if words.len() != due {
         return Err(format!(
-            "row {rows} has {} numbers, and kb + m is {due}",
+            "row {rows} has {} numbers, and kb + m + x is {due}",
             words.len()
         ));
     }
@@ -236,13 +264,13 @@ fn finish_table(records: &[Record]) -> Result<(), Fault> {
             what,
         })
     };
-    let (rows, due) = (table.rows.len(), usize::from(record.m));
+    let (rows, due) = (table.rows.len(), record.rows());
     if rows != due {
-        return fault(format!("the table has {rows} rows, and m is {due}"));
+        return fault(format!("the table has {rows} rows, and m + x is {due}"));
     }
-    let alone = Draft::new(record.kb, record.m, vec![(table.z, table.rows.clone())]);
-    match record::profile(&alone.octets()) {
+    match record::profile(&record.octets_with(std::slice::from_ref(table))) {
         Ok(_) => Ok(()),
+        Err(_) if record.x > 0 => fault("the table is no staircase with extension".to_string()),
         Err(_) => fault("the table is no staircase".to_string()),
     }
 }

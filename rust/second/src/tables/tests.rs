@@ -14,7 +14,7 @@ fn text(count: impl Fn(&Due, usize) -> usize) -> String {
             if due.lines == 1 {
                 lines.push(format!("(a) D = 648 bits, Z={z} bits\n\n```"));
             }
-            for line in 0..due.m * due.lines {
+            for line in 0..due.rows() * due.lines {
                 let numbers = ["7", "-1", "12"].into_iter().cycle();
                 let numbers: Vec<&str> = numbers.take(count(&due, line)).collect();
                 lines.push(format!(" {}  ", numbers.join("  ")));
@@ -40,7 +40,7 @@ fn counted(text: &str) -> String {
 #[test]
 fn right_counts_are_plain() {
     let page = counted(&text(right));
-    assert!(!page.contains("**"));
+    assert!(!page.replace("**none**", "").contains("**"));
     assert!(page.starts_with(
         "## Table 5.1.3.2-2: rate 5/6, Type 1\n\n\
          | row | due | z 27 | z 54 | z 81 |\n|---|---|---|---|---|\n| 0 | 24 | 24 | 24 | 24 |\n"
@@ -51,8 +51,8 @@ fn right_counts_are_plain() {
         "24 of 24",
         "36 of 36",
         "40 of 40",
-        "| row | due | z 81 (its two lines) |",
-        "| 39 | 60 | 60 (30 + 30) |",
+        "| row | numbers (its two lines), of 60 | last 0 in column | due in column | what is wrong |",
+        "| 39 | 60 (30 + 30) | **none** | 59 | no 0 |",
     ] {
         assert!(page.contains(line), "{line}");
     }
@@ -67,9 +67,9 @@ fn other_counts_are_marked() {
     }));
     assert!(page.contains("| 5 | 24 | **23** | **23** | **23** |\n"));
     assert!(page.contains("21 of 24 rows"));
-    assert!(page.contains("| 1 | 60 | **61** (30 + 31) |\n"));
+    assert!(page.contains("| 1 | **61** (30 + 31) | **none** | 22 | 1 too many; no 0 |\n"));
     assert!(page.contains("39 of 40 rows"));
-    assert_eq!(page.matches("**").count(), 8);
+    assert_eq!(page.replace("**none**", "").matches("**").count(), 8);
 }
 
 #[test]
@@ -95,12 +95,12 @@ fn the_public_text_has_the_numbers_as_printed() {
     let (head, records) = written.split_once("\n\n").unwrap();
     assert!(head.lines().all(|line| line.starts_with('#')));
     assert!(records.starts_with(
-        "# Table 5.1.3.2-3: rate 3/4, Type 1.\ntenant 0 profile 34 kb 18 m 6\n\n\
+        "# Table 5.1.3.2-3: rate 3/4, Type 1.\ntenant 0 profile 34 kb 18 m 6 x 0 type 1\n\n\
          z 27 # Table 5.1.3.2-3 (a)\n \
          7  - 12  7  - 12  7  - 12  7  - 12  7  - 12  7  - 12    7  - 12  7  - 12\n"
     ));
     assert_eq!(records.matches("\nz ").count(), 6);
     let rows = records.lines().filter(|line| line.starts_with(" 7  - 12"));
     assert_eq!(rows.count(), 30);
-    assert!(records.contains("\ntenant 0 profile 56 kb 20 m 4\n"));
+    assert!(records.contains("\ntenant 0 profile 56 kb 20 m 4 x 0 type 1\n"));
 }

@@ -1,8 +1,9 @@
-//! Writes the counts of the printed tables, and the text of the public shelf.
+//! Writes the counts of the printed tables of Type 1, and the text of the public shelf.
 
+use std::fmt::Display;
 use std::io::{self, Write};
 
-use super::{Due, FIVE_SIXTHS, HALF, THIRD, THREE_QUARTERS, TWO_THIRDS};
+use super::{third, Due, FIVE_SIXTHS, HALF, THREE_QUARTERS, TWO_THIRDS};
 
 /// The head of the public shelf's text.
 const HEAD: &str = "\
@@ -11,58 +12,50 @@ const HEAD: &str = "\
 # The numbers are the printed ones, with - for the printed -1 (empty). docs/TABLES.md counts them row by row.
 # A profile number is its rate: 34 for 3/4, 56 for 5/6.
 #
-# The form: a record begins with its tenant (0 on this shelf), profile number, kb and m. Then follows each z with its
-# table: m rows of kb + m numbers, one row to a line, - for empty, else the shift. A # begins a comment. Spaces may
-# be put anywhere between numbers; here a wider gap stands before column kb, where the staircase begins. Records rise
-# by tenant and profile number, and the tables of a record by z.
+# The form: a record begins with its tenant (0 on this shelf), profile number, kb, m, x and type. Then follows each z
+# with its table: m + x rows of kb + m + x numbers, one row to a line, - for empty, else the shift. A # begins a
+# comment. Spaces may be put anywhere between numbers; here a wider gap stands before column kb, where the staircase
+# begins. Records rise by tenant and profile number, and the tables of a record by z.
 #
 # After an edit, `second shelves shelves` makes the shelves anew.
 ";
 
 /// Counts the numbers of every table, row by row, as docs/TABLES.md has them.
 pub fn counts(text: &str, output: &mut impl Write) -> io::Result<()> {
-    for (place, due) in [FIVE_SIXTHS, THREE_QUARTERS, TWO_THIRDS, HALF, THIRD]
-        .iter()
-        .enumerate()
-    {
-        if place > 0 {
-            writeln!(output)?;
-        }
-        count(due, text, output)?;
+    for due in [FIVE_SIXTHS, THREE_QUARTERS, TWO_THIRDS, HALF] {
+        count(&due, text, output)?;
+        writeln!(output)?;
     }
-    Ok(())
+    third::count(text, output)
 }
 
 fn count(due: &Due, text: &str, output: &mut impl Write) -> io::Result<()> {
     let parts = due.find(text)?;
     writeln!(output, "## Table {}: {}\n", due.number, due.title)?;
-    let lines = if due.lines == 1 {
-        ""
-    } else {
-        " (its two lines)"
-    };
-    let heads: Vec<String> = due.sizes.iter().map(|z| format!("z {z}{lines}")).collect();
+    let heads: Vec<String> = due.sizes.iter().map(|z| format!("z {z}")).collect();
     writeln!(output, "| row | due | {} |", heads.join(" | "))?;
     writeln!(output, "|---|---|{}", "---|".repeat(heads.len()))?;
     let mut right = 0;
-    for row in 0..due.m {
+    for row in 0..due.rows() {
         write!(output, "| {row} | {} |", due.columns())?;
         for part in &parts {
-            let lines = &part[row * due.lines..(row + 1) * due.lines];
-            let counts: Vec<usize> = lines.iter().map(Vec::len).collect();
-            let sum: usize = counts.iter().sum();
-            let mark = if sum == due.columns() { "" } else { "**" };
-            write!(output, " {mark}{sum}{mark}")?;
-            if let [first, second] = counts[..] {
-                write!(output, " ({first} + {second})")?;
-            }
-            write!(output, " |")?;
-            right += usize::from(sum == due.columns());
+            let count = part[row].len();
+            write!(output, " {} |", marked(count, count == due.columns()))?;
+            right += usize::from(count == due.columns());
         }
         writeln!(output)?;
     }
-    let all = due.m * parts.len();
+    let all = due.rows() * parts.len();
     writeln!(output, "\n{right} of {all} rows hold what is due.")
+}
+
+/// Bold, where it is not what is due.
+pub fn marked(shown: impl Display, is_due: bool) -> String {
+    if is_due {
+        shown.to_string()
+    } else {
+        format!("**{shown}**")
+    }
 }
 
 /// Writes the text of the public shelf.
@@ -74,25 +67,35 @@ pub fn public(text: &str, output: &mut impl Write) -> io::Result<()> {
 
 fn record(due: &Due, profile: u16, text: &str, output: &mut impl Write) -> io::Result<()> {
     writeln!(output, "\n# Table {}: {}.", due.number, due.title)?;
-    writeln!(
-        output,
-        "tenant 0 profile {profile} kb {} m {}",
-        due.kb, due.m
-    )?;
+    head(due, 1, profile, output)?;
     for ((z, part), letter) in due.sizes.iter().zip(due.find(text)?).zip('a'..) {
         writeln!(output, "\nz {z} # Table {} ({letter})", due.number)?;
         for line in part {
-            for (column, number) in line.iter().enumerate() {
-                let shown = if *number == "-1" { "-" } else { number };
-                let width = match column {
-                    0 => 2,
-                    _ if column == due.kb => 5,
-                    _ => 3,
-                };
-                write!(output, "{shown:>width$}")?;
-            }
-            writeln!(output)?;
+            row(due, &line, output)?;
         }
     }
     Ok(())
+}
+
+/// A record's first line.
+pub fn head(due: &Due, coding: u16, profile: u16, output: &mut impl Write) -> io::Result<()> {
+    let Due { kb, m, x, .. } = due;
+    writeln!(
+        output,
+        "tenant 0 profile {profile} kb {kb} m {m} x {x} type {coding}"
+    )
+}
+
+/// A row of a table. A wider gap stands before the staircase, and before the extension.
+pub fn row(due: &Due, numbers: &[&str], output: &mut impl Write) -> io::Result<()> {
+    for (column, number) in numbers.iter().enumerate() {
+        let shown = if *number == "-1" { "-" } else { number };
+        let width = match column {
+            0 => 2,
+            _ if column == due.kb || column == due.kb + due.m => 5,
+            _ => 3,
+        };
+        write!(output, "{shown:>width$}")?;
+    }
+    writeln!(output)
 }

@@ -3,7 +3,7 @@ use native.Mathlib.Omega.{arith}
 use denote.Ref.{now}
 use borrow.Author.Needs.{needs}
 use Rattle.cutting.proofs.PlanFields.{some-fields}
-use Rattle.coding.proofs.PlanFields.{word-room}
+use Rattle.block.proofs.PlanFields.{word-room}
 use Rattle.coding.proofs.Sent.{own-room, sendable-is}
 use Rattle.coding.proofs.inner.sendable.Statement.{statement}
 use Rattle.coding.proofs.inner.sendable.Tie as tie

@@ -7,23 +7,22 @@ use lib.ListN.{length, take, drop}
 use denote.Ref.{now}
 use borrow.Author.Tests.{not-true, not-false}
 use borrow.Author.Needs.{needs}
-use lib.Seq.{take-take}
 use Rattle.bits.specs.declared.count.CodedBits.{CodedBits}
-use Rattle.bits.proofs.Laid.{laid-from}
 use Rattle.bits.proofs.Lists.{bits-take, bits-drop, length-part}
 use Rattle.cutting.specs.Plan.{blocks}
-use Rattle.coding.proofs.PlanFields.{word-room}
+use Rattle.matching.proofs.Start.{versioned}
+use Rattle.block.proofs.PlanFields.{word-room}
 use Rattle.coding.proofs.Rebuilt.{Walk, walk-none, walk-more, walk-done, block-other, fields, given-here, room-here}
-use Rattle.coding.proofs.Sent.{own-fits, own-room, share-is, share-fits}
+use Rattle.coding.proofs.Sent.{own-fits, own-room, share-is, share-fits, start-in}
 use Rattle.coding.proofs.receiving.rebuild.Statement.{statement}
 use Rattle.coding.proofs.receiving.rebuild.Tie as tie
 
 abbrev Inv-loop : tie.InvT-loop
-Inv-loop profile plan bits terms checker word₀ room₀ g b c start₀ at₀ r₀ word room start at r =
+Inv-loop profile plan bits terms from checker word₀ room₀ g b c start₀ at₀ r₀ word room start at r =
     (r ≤ plan .blocks) × (length word ≡ length word₀) × Walk profile terms bits (plan .bits) room₀ r start at room
 
 abbrev μ-loop : tie.MeasureT-loop
-μ-loop profile plan bits terms checker word₀ room₀ g b c start₀ at₀ r₀ word room start at r = plan .blocks - r
+μ-loop profile plan bits terms from checker word₀ room₀ g b c start₀ at₀ r₀ word room start at r = plan .blocks - r
 
 loop-holds : tie.Need-loop-holds Inv-loop μ-loop
 loop-holds c = let st = c .before .before .before .before in
@@ -108,8 +107,9 @@ is-sent-as-requires c κs = let l = c .before .before .before .before .before in
     record {
       some = record { octets = h .octets; taken = h .receivable .taken; plan = h .plan };
       own-fits = own-room R (a .plan) k (i .r) (own .result) (own .ensures);
-      fits = i .inv .1 ∙ st .pre .1;
-      room = omega (arith, size, i .inv .1, st .pre .1, room-here R (a .terms) s (a .plan) h (i .r) (own .result) (e .result .0) order (own .ensures) mine);
+      starts = omega (arith, start-in R (a .plan) k (a .terms) (versioned _ _ (h .receivable .version)) (a .from) (st .pre .1), i .inv .1, st .pre .2);
+      fits = i .inv .1 ∙ st .pre .2;
+      room = omega (arith, size, i .inv .1, st .pre .2, room-here R (a .terms) s (a .plan) h (i .r) (own .result) (e .result .0) order (own .ensures) mine);
       single = bits-take (i .at + e .result .0 - i .at) (drop (i .at) s) (bits-drop (i .at) s (h .receivable .single));
     }
 
@@ -140,7 +140,7 @@ returns c = let l = c .before .before .before .before .before .before .before .b
     record {
       sent = λ q. absurd (true≢false (sym q));
       other = λ q all.
-          block-other R (a .terms) s (a .plan) h (i .r) (i .at) (e .result .0) (own .result) order (i .inv .2 .stands) mine (own .ensures)
+          block-other R (a .terms) s (a .plan) h (i .r) (i .at) (e .result .0) (own .result) (a .from) order (i .inv .2 .stands) mine (own .ensures) (st .pre .1)
           (is .result) told (not-true _ (c .if1 .taken)) all;
     }
 
@@ -159,8 +159,8 @@ lay-requires c κs = let l = c .before .before .before .before .before .before .
     let e = c .before .before .before .before .before .before .before .before .before .share-of in
     let mine = share-is R (a .plan) k (a .terms) (length s) (i .r) (e .result .0) (ap (λ (x : CodedBits). x .0) (e .ensures)) in
     let fits = share-fits R (a .plan) k (a .terms) (length s) given (i .r) (i .at) (e .result .0) order (i .inv .2 .stands) mine in (
-      omega (arith, own-room R (a .plan) k (i .r) (own .result) (own .ensures), word-room R (a .plan) k, c .before .before .before .before .before .is-sent-as .kept .1 .1 .1 .1 .1 .0, i .inv .1, st .pre .1),
-      omega (arith, own-fits R (a .plan) k (i .r) (i .start) (own .result) order (i .inv .2 .starts) (own .ensures), k .cut .bits-high, i .inv .2 .same, st .pre .2),
+      omega (arith, own-room R (a .plan) k (i .r) (own .result) (own .ensures), word-room R (a .plan) k, c .before .before .before .before .before .is-sent-as .kept .1 .1 .1 .1 .1 .1 .0, i .inv .1, st .pre .2),
+      omega (arith, own-fits R (a .plan) k (i .r) (i .start) (own .result) order (i .inv .2 .starts) (own .ensures), k .cut .bits-high, i .inv .2 .same, st .pre .3),
     )
 
 add-start : tie.Need-add-start Inv-loop μ-loop
@@ -222,12 +222,12 @@ loop-again c = let l = c .before .before .before .before .before .before .before
     let is = c .before .before .before .before .before .before .before .before .before .is-sent-as in
     let told = rw whole at (is .ensures .is) in
     let yes = not-false _ (c .before .before .before .before .before .before .if1 .left) in
-    let less : own .result ≤ e .result .0 = omega (arith, room-here R (a .terms) s (a .plan) h (i .r) (own .result) (e .result .0) order (own .ensures) mine) in
-    let front : take (own .result) (is .last .1 .1 .1 .1 .1 .0) ≡ take (own .result) (drop (i .at) s) = (rw whole at (is .ensures .front yes)) ∙ take-take (own .result) (e .result .0) (drop (i .at) s) less in (
+    let word = is .last .1 .1 .1 .1 .1 .1 .0 in
+    let has : own .result ≤ length word = omega (arith, own-room R (a .plan) k (i .r) (own .result) (own .ensures), word-room R (a .plan) k, is .kept .1 .1 .1 .1 .1 .1 .0, i .inv .1, st .pre .2) in (
       omega (arith, order),
-      is .kept .1 .1 .1 .1 .1 .0 ∙ i .inv .1,
-      walk-more R (a .terms) s (a .plan) h (i .r) (i .at) (e .result .0) (own .result) order (i .inv .2 .stands) mine (own .ensures)
-          (is .result) told (now (a .room)) (i .room) _ (i .start) yes (st .pre .2) (i .inv .2) (laid-from s (is .last .1 .1 .1 .1 .1 .0) (i .room) _ (i .at) (own .result) (i .start) front (c .before .before .before .lay .ensures)),
+      is .kept .1 .1 .1 .1 .1 .1 .0 ∙ i .inv .1,
+      walk-more R (a .terms) s (a .plan) h (i .r) (i .at) (e .result .0) (own .result) (a .from) order (i .inv .2 .stands) mine (own .ensures) (st .pre .1)
+          (is .result) told (now (a .room)) word (i .room) _ (i .start) yes (st .pre .3) (rw whole at (is .ensures .front yes)) has (i .inv .2) (c .before .before .before .lay .ensures),
     )
 
 same-length-3 : tie.Need-same-length-3 Inv-loop μ-loop

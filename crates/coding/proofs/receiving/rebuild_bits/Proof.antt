@@ -3,24 +3,34 @@ use mathlib.Core.Path.{sym, _∙_}
 use Prim.Native.Nat.{ℕ}
 use lib.ListN.{replicate}
 use lib.Seq.{length-take-le}
+use denote.Ref.{now}
 use borrow.Author.Needs.{needs}
+use Rattle.matching.proofs.Start.{versioned}
+use Rattle.coding.proofs.Rebuilt.{fields}
+use Rattle.coding.proofs.Sent.{start-is}
 use Rattle.coding.proofs.receiving.rebuild_bits.Statement.{statement}
 use Rattle.coding.proofs.receiving.rebuild_bits.Tie as tie
 
 size-requires : tie.Need-size-requires
 size-requires c κs = let st = c .before .before .before in record { octets = st .pre .0 .octets; taken = st .pre .0 .receivable .taken; plan = st .pre .0 .plan }
 
+start-requires : tie.Need-start-requires
+start-requires c κs =
+    let st = c .before .before .before .before in
+    (record { octets = st .pre .0 .octets; taken = st .pre .0 .receivable .taken; plan = st .pre .0 .plan }, versioned _ _ (st .pre .0 .receivable .version))
+
 array-borrow-prefix-word : tie.Need-array-borrow-prefix-word
-array-borrow-prefix-word c = c .size .ensures .1
+array-borrow-prefix-word c = c .before .size .ensures .1
 
 slice-aggregate-rebuild : tie.Need-slice-aggregate-rebuild
-slice-aggregate-rebuild c = sym (length-take-le {A = ℕ} _ (replicate 2592 0) (c .before .size .ensures .1))
+slice-aggregate-rebuild c = sym (length-take-le {A = ℕ} _ (replicate 4860 0) (c .before .before .size .ensures .1))
 
 rebuild-requires : tie.Need-rebuild-requires
 rebuild-requires c κs =
-    let st = c .before .before .before .before .before .before in
-    let size = c .before .before .size .ensures in
-    (st .pre .0, length-take-le {A = ℕ} _ (replicate 2592 0) (size .1) ∙ size .0, st .pre .1)
+    let st = c .before .before .before .before .before .before .before in
+    let a = st .args in
+    let size = c .before .before .before .size .ensures in
+    (st .pre .0, start-is (now (a .profile)) (a .plan) (fields (now (a .profile)) (a .terms) (now (a .bits)) (a .plan) (st .pre .0)) (a .terms) _ (c .before .before .start .ensures .0), length-take-le {A = ℕ} _ (replicate 4860 0) (size .1) ∙ size .0, st .pre .1)
 
 same-length : tie.Need-same-length
 same-length c = search needs
@@ -29,4 +39,4 @@ returns : tie.Need-returns
 returns c = c .before .before .before .rebuild .ensures
 
 pub rebuild-bits-spec : {M : Type 1} → statement M
-rebuild-bits-spec = tie.close (tie.spec size-requires array-borrow-prefix-word slice-aggregate-rebuild rebuild-requires same-length returns)
+rebuild-bits-spec = tie.close (tie.spec size-requires start-requires array-borrow-prefix-word slice-aggregate-rebuild rebuild-requires same-length returns)

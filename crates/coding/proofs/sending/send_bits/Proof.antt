@@ -3,24 +3,32 @@ use mathlib.Core.Path.{sym, _∙_}
 use Prim.Native.Nat.{ℕ}
 use lib.ListN.{replicate}
 use lib.Seq.{length-take-le}
+use denote.Ref.{now}
 use borrow.Author.Needs.{needs}
+use Rattle.cutting.proofs.PlanFields.{some-fields}
+use Rattle.matching.proofs.Start.{versioned}
+use Rattle.coding.proofs.Sent.{start-is}
 use Rattle.coding.proofs.sending.send_bits.Statement.{statement}
 use Rattle.coding.proofs.sending.send_bits.Tie as tie
 
 size-requires : tie.Need-size-requires
 size-requires c κs = let st = c .before .before .before in st .pre .ready .some
 
+start-requires : tie.Need-start-requires
+start-requires c κs = let st = c .before .before .before .before in (st .pre .ready .some, versioned _ _ (st .pre .version))
+
 array-borrow-prefix-room : tie.Need-array-borrow-prefix-room
-array-borrow-prefix-room c = c .size .ensures .1
+array-borrow-prefix-room c = c .before .size .ensures .1
 
 slice-aggregate-send-blocks : tie.Need-slice-aggregate-send-blocks
-slice-aggregate-send-blocks c = sym (length-take-le {A = ℕ} _ (replicate 2592 0) (c .before .size .ensures .1))
+slice-aggregate-send-blocks c = sym (length-take-le {A = ℕ} _ (replicate 4860 0) (c .before .before .size .ensures .1))
 
 send-blocks-requires : tie.Need-send-blocks-requires
 send-blocks-requires c κs =
-    let st = c .before .before .before .before .before .before in
-    let size = c .before .before .size .ensures in
-    (st .pre, length-take-le {A = ℕ} _ (replicate 2592 0) (size .1) ∙ size .0)
+    let st = c .before .before .before .before .before .before .before in
+    let a = st .args in
+    let size = c .before .before .before .size .ensures in
+    (st .pre, start-is (now (a .profile)) (a .plan) (some-fields (now (a .profile)) (a .plan) (st .pre .ready .some)) (a .terms) _ (c .before .before .start .ensures .0), length-take-le {A = ℕ} _ (replicate 4860 0) (size .1) ∙ size .0)
 
 same-length : tie.Need-same-length
 same-length c = search needs
@@ -29,4 +37,4 @@ returns : tie.Need-returns
 returns c = c .before .before .before .send-blocks .ensures
 
 pub send-bits-spec : {M : Type 1} → statement M
-send-bits-spec = tie.close (tie.spec size-requires array-borrow-prefix-room slice-aggregate-send-blocks send-blocks-requires same-length returns)
+send-bits-spec = tie.close (tie.spec size-requires start-requires array-borrow-prefix-room slice-aggregate-send-blocks send-blocks-requires same-length returns)

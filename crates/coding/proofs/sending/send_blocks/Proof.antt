@@ -12,22 +12,23 @@ use Rattle.bits.specs.declared.count.CodedBits.{CodedBits}
 use Rattle.cutting.specs.Plan.{blocks}
 use Rattle.cutting.specs.Cutting.{ownStart}
 use Rattle.cutting.proofs.PlanFields.{some-fields}
+use Rattle.matching.proofs.Start.{versioned}
 use Rattle.coding.specs.Allocation.{share}
 use Rattle.coding.specs.Joining.{blockSent, joined, radioBits}
 use Rattle.coding.proofs.Joining.{Joined, joined-none, joined-more, part-rest}
 use Rattle.coding.proofs.Shares.{shares-all}
-use Rattle.coding.proofs.Sent.{start-none, start-turn, own-is, own-fits, own-room, share-is, length-block, share-fits, share-turn, block-is}
+use Rattle.coding.proofs.Sent.{start-none, start-turn, own-is, own-fits, own-room, share-is, length-block, share-fits, share-turn, start-in, block-is}
 use Rattle.coding.proofs.sending.send_blocks.Statement.{statement}
 use Rattle.coding.proofs.sending.send_blocks.Tie as tie
 
 abbrev Inv-loop : tie.InvT-loop
-Inv-loop profile plan bits terms g word₀ out₀ b c start₀ at₀ r₀ word out start at r =
+Inv-loop profile plan bits terms g from word₀ out₀ b c start₀ at₀ r₀ word out start at r =
     (r ≤ plan .blocks) × (start ≡ ownStart profile (plan .bits) r) × (length word ≡ length word₀)
     × (at ≡ sumBelow r (λ i. share terms (g .0) (blocks profile (plan .bits)) i .0))
     × Joined (blockSent profile (plan .bits) bits terms (g .0)) out₀ r at out
 
 abbrev μ-loop : tie.MeasureT-loop
-μ-loop profile plan bits terms g word₀ out₀ b c start₀ at₀ r₀ word out start at r = plan .blocks - r
+μ-loop profile plan bits terms g from word₀ out₀ b c start₀ at₀ r₀ word out start at r = plan .blocks - r
 
 within : (c : tie.In-loop Inv-loop μ-loop) → c .before .loop .at ≤ length (c .before .loop .out)
 within l =
@@ -84,8 +85,9 @@ send-block-requires c κs =
         ready = st .pre .0 .ready;
         own-fits = own-room R (a .plan) k (i .r) (own .result) (own .ensures);
         inside = omega (arith, own-fits R (a .plan) k (i .r) (i .start) (own .result) order (i .inv .1) (own .ensures), st .pre .0 .ready .size);
-        fits = i .inv .2 ∙ st .pre .1;
+        fits = i .inv .2 ∙ st .pre .2;
       },
+      omega (arith, start-in R (a .plan) k (a .terms) (versioned _ _ (st .pre .0 .version)) (a .from) (st .pre .1), i .inv .2, st .pre .2),
       rw part-rest (simp length-drop (omega (arith, room, i .inv .4 .same, st .pre .0 .room))),
     )
 
@@ -145,12 +147,12 @@ loop-again c =
     let f = blockSent R (a .plan .bits) s (a .terms) (a .g .0) in
     let turn = start-turn R (a .plan .bits) (i .r) in
     let here = own-is R (a .plan) k (i .r) (own .result) (own .ensures) in
-    let written = sent .ensures ∙ ap (λ (x : List ℕ). x ++ drop (e .result .0) (take (length (i .out) - i .at) (drop (i .at) (i .out)))) (block-is R (a .plan) k (a .terms) (a .g .0) s (i .r) (i .start) (own .result) (e .result .0) (i .inv .1) (own .ensures) mine) in (
+    let written = sent .ensures ∙ ap (λ (x : List ℕ). x ++ drop (e .result .0) (take (length (i .out) - i .at) (drop (i .at) (i .out)))) (block-is R (a .plan) k (a .terms) (a .g .0) s (i .r) (i .start) (own .result) (a .from) (e .result .0) (i .inv .1) (own .ensures) (st .pre .1) mine) in (
       omega (arith, order),
       omega (arith, turn, here, i .inv .1),
-      omega (arith, sent .kept .1 .1 .1 .1 .1 .1 .0, i .inv .2),
+      omega (arith, sent .kept .1 .1 .1 .1 .1 .1 .1 .0, i .inv .2),
       omega (arith, share-turn R (a .plan) k (a .terms) (a .g .0) (i .r) (i .at) (e .result .0) (i .inv .3) mine),
-      joined-more f (now (a .out)) (i .out) (sent .last .1 .1 .1 .1 .1 .1 .1 .0) (i .r) (i .at) (e .result .0) _ (omega arith) (i .inv .4) (length-block R (a .plan) k (a .terms) (a .g .0) s (i .r) ∙ sym mine) written (c .before .before .out .given .1),
+      joined-more f (now (a .out)) (i .out) (sent .last .1 .1 .1 .1 .1 .1 .1 .1 .0) (i .r) (i .at) (e .result .0) _ (omega arith) (i .inv .4) (length-block R (a .plan) k (a .terms) (a .g .0) s (i .r) ∙ sym mine) written (c .before .before .out .given .1),
     )
 
 same-length : tie.Need-same-length Inv-loop μ-loop

@@ -1,33 +1,17 @@
 -- `parity::inner::code` meets its contract.
-use mathlib.Core.Path.{sym}
 use native.Mathlib.Nat.{mul-le-mul}
 use native.Mathlib.Omega.{arith}
-use lib.ListN.{replicate}
-use lib.Seq.{length-take-le}
 use borrow.Author.Needs.{needs}
-use Rattle.parity.proofs.Columns.{sums-room}
 use Rattle.parity.proofs.inner.code.Statement.{statement}
 use Rattle.parity.proofs.inner.code.Tie as tie
 
-mul-used : tie.Need-mul-used
-mul-used c =
+mul-n : tie.Need-mul-n
+mul-n c =
     let shape = c .before .before .pre .shape in
     omega (arith, shape .z-most, mul-le-mul (shape .rows-most) (shape .z-most))
 
-array-borrow-prefix-room : tie.Need-array-borrow-prefix-room
-array-borrow-prefix-room c =
-    let shape = c .before .before .before .pre .shape in
-    omega (arith, shape .z-most, mul-le-mul (shape .rows-most) (shape .z-most))
-
-slice-aggregate-solve : tie.Need-slice-aggregate-solve
-slice-aggregate-solve c =
-    let shape = c .before .before .before .before .pre .shape in
-    sym (length-take-le _ (replicate 972 0) (omega (arith, shape .z-most, mul-le-mul (shape .rows-most) (shape .z-most))))
-
-solve-requires : tie.Need-solve-requires
-solve-requires c κs =
-    let pre = c .before .before .before .before .pre in
-    (pre, sums-room _ _ _ _ _ (pre .shape))
+code-few-requires : tie.Need-code-few-requires
+code-few-requires c κs = search needs
 
 same-length : tie.Need-same-length
 same-length c = search needs
@@ -35,13 +19,23 @@ same-length c = search needs
 returns : tie.Need-returns
 returns c = search needs
 
+code-many-requires : tie.Need-code-many-requires
+code-many-requires c κs = search needs
+
+same-length-2 : tie.Need-same-length-2
+same-length-2 c = search needs
+
+returns-2 : tie.Need-returns-2
+returns-2 c = search needs
+
 pub code-spec : {M : Type 1} → statement M
 code-spec =
     tie.close
     (tie.spec
-    mul-used
-    array-borrow-prefix-room
-    slice-aggregate-solve
-    solve-requires
+    mul-n
+    code-few-requires
     same-length
-    returns)
+    returns
+    code-many-requires
+    same-length-2
+    returns-2)

@@ -9,7 +9,7 @@ use Rattle.profile.proofs.Shape.{header-is}
 use Rattle.profile.proofs.parts.offset_due.Statement.{statement}
 use Rattle.profile.proofs.parts.offset_due.Tie as tie
 
-most : (c : tie.After-table-size) → c .before .before .before .args .i * c .table-size .result ≤ 3 * 384
+most : (c : tie.After-table-size) → c .before .before .before .args .i * c .table-size .result ≤ 3 * 2400
 most c = mul-le-mul (c .before .before .before .pre .1) (c .table-size .ensures .1)
 
 t-requires : tie.Need-t-requires

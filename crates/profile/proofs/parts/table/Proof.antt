@@ -6,7 +6,7 @@ use lib.ListN.{length, take, drop}
 use denote.Ref.{now}
 use borrow.Author.Needs.{needs}
 use Rattle.profile.specs.Record.{offset, tableSize, table}
-use Rattle.profile.proofs.Shape.{Shape, shape-is, table-sized}
+use Rattle.profile.proofs.Shape.{Shape, shape-is, table-whole}
 use Rattle.profile.proofs.parts.table.Statement.{statement}
 use Rattle.profile.proofs.parts.table.Tie as tie
 
@@ -46,7 +46,7 @@ returns c =
     let size = c .before .table-size .result in
     let long : start + size - start ≡ size = omega arith in
     let part : take (start + size - start) (drop start R) ≡ take (tableSize R) (drop (offset R (s .args .i)) R) = cc long in
-    record { same = part; sized = rw part (table-sized R (shaped s) (s .args .i) (s .pre .1)) }
+    record { same = part; whole = rw part (table-whole R (shaped s) (s .args .i) (s .pre .1)) }
 
 pub table-spec : {M : Type 1} → statement M
 table-spec =

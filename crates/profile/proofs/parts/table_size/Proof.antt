@@ -7,7 +7,7 @@ use Rattle.profile.specs.Record.{tableSize}
 use Rattle.profile.proofs.parts.table_size.Statement.{statement}
 use Rattle.profile.proofs.parts.table_size.Tie as tie
 
-most : (c : tie.After-columns) → c .before .rows .result * c .columns .result ≤ 12 * 32
+most : (c : tie.After-columns) → c .before .rows .result * c .columns .result ≤ 40 * 60
 most c = mul-le-mul (c .before .rows .ensures .2) (c .columns .ensures .2)
 
 rows-requires : tie.Need-rows-requires

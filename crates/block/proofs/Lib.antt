@@ -1,0 +1,2 @@
+pub mod PlanFields
+pub mod ReceivedBlock
