@@ -8,8 +8,10 @@ pub fn by_run(coded: &[u8], kind: usize, rv: usize, e: usize, out: &mut [u8]) ->
     let out = &mut out[..e];
     let mut written = 0;
     let (last, first) = coded.split_at(start(kind, rv, coded.len()));
-    for run in first.chunks(32).chain(last.chunks(32)) {
-        written += put(run, &mut out[written..]);
+    for part in [first, last] {
+        for run in part.chunks(32) {
+            written += put(run, &mut out[written..]);
+        }
     }
     repeat(out, written);
     Ok(())

@@ -8,10 +8,12 @@ use crate::record::Profile;
 /// The octets of the longest word.
 pub const PACKED: usize = WORD.div_ceil(8);
 
-type Groups = [u128; ROWS];
+/// Room for the sums of all rows, or for the parity groups.
+pub type Groups = [u128; ROWS];
 
 impl Matrix<'_> {
     /// Adds column j to the sums of the rows from `top` on.
+    #[inline(always)]
     fn add(&self, j: usize, group: u128, top: usize, sums: &mut [u128]) {
         let rows = self.table[top * self.columns..].chunks_exact(self.columns);
         for (sum, row) in sums[top..].iter_mut().zip(rows) {
@@ -22,46 +24,47 @@ impl Matrix<'_> {
         }
     }
 
-    /// The parity groups of the systematic groups that `group` gives.
-    pub fn parity(&self, group: impl Fn(usize) -> u128) -> Groups {
-        let mut room = [0; ROWS];
+    /// The sums of all rows over the first columns, whose groups `group` gives.
+    fn sums<'r>(&self, columns: usize, group: impl Fn(usize) -> u128, room: &'r mut Groups) -> &'r mut [u128] {
         let sums = &mut room[..self.rows];
-        for j in 0..self.kb {
+        sums.fill(0);
+        for j in 0..columns {
             self.add(j, group(j), 0, sums);
         }
-        let first = sums[..self.m].iter().fold(0, |all, &sum| all ^ sum) & top(self.z);
-        self.add(self.kb, first, 0, sums);
-        let mut parity = [0; ROWS];
-        parity[0] = first;
+        sums
+    }
+
+    /// The parity groups of the systematic groups that `group` gives; each takes the place of its row's sum.
+    pub fn parity<'r>(&self, group: impl Fn(usize) -> u128, room: &'r mut Groups) -> &'r [u128] {
+        let sums = self.sums(self.kb, group, room);
+        let mut next = sums[..self.m].iter().fold(0, |all, &sum| all ^ sum) & top(self.z);
+        self.add(self.kb, next, 0, sums);
         let mut stair = 0;
-        for k in 0..self.m - 1 {
-            stair ^= sums[k];
-            parity[k + 1] = stair & top(self.z);
+        for sum in &mut sums[..self.m] {
+            stair ^= *sum;
+            *sum = next;
+            next = stair & top(self.z);
         }
         if self.rows > self.m {
-            self.extend_groups(sums, &mut parity);
+            self.extend_groups(sums);
         }
-        parity
+        sums
     }
 
     /// The groups of the rows behind the staircase: each is its row's sum over all columns before.
-    fn extend_groups(&self, sums: &mut [u128], parity: &mut Groups) {
+    fn extend_groups(&self, sums: &mut [u128]) {
         for k in 1..self.m {
-            self.add(self.kb + k, parity[k], self.m, sums);
+            self.add(self.kb + k, sums[k], self.m, sums);
         }
         for k in self.m..self.rows {
-            parity[k] = sums[k] & top(self.z);
-            self.add(self.kb + k, parity[k], k + 1, sums);
+            sums[k] &= top(self.z);
+            self.add(self.kb + k, sums[k], k + 1, sums);
         }
     }
 
     /// Whether a word of the groups that `group` gives checks.
-    pub fn all_even(&self, group: impl Fn(usize) -> u128) -> bool {
-        let mut room = [0; ROWS];
-        let sums = &mut room[..self.rows];
-        for j in 0..self.columns {
-            self.add(j, group(j), 0, sums);
-        }
+    pub fn all_even(&self, group: impl Fn(usize) -> u128, room: &mut Groups) -> bool {
+        let sums = self.sums(self.columns, group, room);
         sums.iter().fold(0, |any, &sum| any | sum) & top(self.z) == 0
     }
 }
@@ -73,14 +76,15 @@ pub fn code(record: &[u8], z: usize, places: &[u8], out: &mut [u8]) -> Result<()
     block_accepted(&profile, z, places, out.len())?;
     let mut packed = [0; 203 + 16];
     pack_places(places, &mut packed);
-    let parity = matrix.parity(|j| bits_at(&packed, j * z, z));
+    let mut room = [0; ROWS];
+    let parity = matrix.parity(|j| bits_at(&packed, j * z, z), &mut room);
     let (systematic, rest) = out[..profile.coded(z)].split_at_mut(places.len());
     systematic.copy_from_slice(places);
-    let mut tail = [0; ROWS * 81 + 8];
-    for (i, &group) in parity[..profile.rows].iter().enumerate() {
-        put(&mut tail[i * z..], group, z);
+    let mut spread = [0; 88];
+    for (out, &group) in rest.chunks_exact_mut(z).zip(parity) {
+        put(&mut spread, group, z);
+        out.copy_from_slice(&spread[..z]);
     }
-    rest.copy_from_slice(&tail[..rest.len()]);
     Ok(())
 }
 
@@ -100,5 +104,5 @@ pub fn check(record: &[u8], z: usize, word: &[u8]) -> Result<bool, u32> {
     word_accepted(&profile, z, word)?;
     let mut packed = [0; PACKED + 16];
     pack(word, &mut packed);
-    Ok(matrix.all_even(|j| bits_at(&packed, j * z, z)))
+    Ok(matrix.all_even(|j| bits_at(&packed, j * z, z), &mut [0; ROWS]))
 }

@@ -4,7 +4,7 @@ use super::bits::{bits_at, own_group, pack};
 use super::checksum::by_eight_octets;
 use super::parity::PACKED;
 use super::send::kept;
-use crate::plain::parity::{Matrix, WORD};
+use crate::plain::parity::{Matrix, ROWS, WORD};
 use crate::plain::receive::planned;
 use crate::record::{Plan, Profile, Terms};
 
@@ -28,7 +28,7 @@ pub fn receive(record: &[u8], a: usize, terms: Terms, bits: &[u8], out: &mut [u8
 fn take_all(profile: &Profile, plan: &Plan, terms: Terms, bits: &[u8], own: &mut [u8]) -> Result<(), u32> {
     let matrix = Matrix::of(profile, plan.index, plan.z);
     let (shares, from) = (plan.shares(terms), profile.start(plan.z, terms.rv));
-    let mut packed = [0; PACKED + 32];
+    let (mut packed, mut room) = ([0; PACKED + 32], [0; ROWS]);
     let mut start = 0;
     let mut rest = bits;
     for r in 0..plan.blocks {
@@ -40,7 +40,7 @@ fn take_all(profile: &Profile, plan: &Plan, terms: Terms, bits: &[u8], own: &mut
             return Err(14);
         }
         take(once, kept(count, plan.places, from), &mut packed, &mut own[start..start + count]);
-        if !matrix.all_even(|j| group(matrix, &packed, count, j)) {
+        if !matrix.all_even(|j| group(matrix, &packed, count, j), &mut room) {
             return Err(14);
         }
         start += count;

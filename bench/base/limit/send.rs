@@ -2,7 +2,8 @@
 
 use super::bits::{own_group, put, spread_octet};
 use super::checksum::by_eight_octets;
-use crate::plain::parity::{Matrix, WORD};
+use super::parity::Groups;
+use crate::plain::parity::{Matrix, ROWS, WORD};
 use crate::plain::send::planned;
 use crate::record::Terms;
 
@@ -12,12 +13,12 @@ pub fn send(record: &[u8], block: &[u8], terms: Terms, out: &mut [u8]) -> Result
     carry(block, &mut carried);
     let matrix = Matrix::of(&profile, plan.index, plan.z);
     let (shares, from) = (plan.shares(terms), profile.start(plan.z, terms.rv));
-    let mut sent = [0; WORD + 16];
+    let (mut sent, mut room) = ([0; WORD + 16], [0; ROWS]);
     let mut start = 0;
     let mut at = 0;
     for r in 0..plan.blocks {
         let (own, share) = (plan.own(r), shares.of(r));
-        lay(matrix, &carried, start, own, &mut sent);
+        lay(matrix, &carried, start, own, &mut room, &mut sent);
         let (last, first) = sent[..own + matrix.rows * plan.z].split_at(kept(own, plan.places, from));
         put_round(first, last, &mut out[at..at + share]);
         start += own;
@@ -36,7 +37,9 @@ fn put_round(first: &[u8], last: &[u8], out: &mut [u8]) {
     for round in out.chunks_mut(first.len() + last.len()) {
         let (front, back) = round.split_at_mut(first.len().min(round.len()));
         front.copy_from_slice(&first[..front.len()]);
-        back.copy_from_slice(&last[..back.len()]);
+        if !back.is_empty() {
+            back.copy_from_slice(&last[..back.len()]);
+        }
     }
 }
 
@@ -48,11 +51,11 @@ fn carry(block: &[u8], octets: &mut [u8]) {
 }
 
 /// The unmarked places of one coded block.
-fn lay(matrix: Matrix, carried: &[u8], start: usize, own: usize, sent: &mut [u8]) {
+fn lay(matrix: Matrix, carried: &[u8], start: usize, own: usize, room: &mut Groups, sent: &mut [u8]) {
     let z = matrix.z;
-    let parity = matrix.parity(|j| own_group(carried, start, own, j * z, z));
+    let parity = matrix.parity(|j| own_group(carried, start, own, j * z, z), room);
     spread_from(carried, start, &mut sent[..own.next_multiple_of(8)]);
-    for (i, &group) in parity[..matrix.rows].iter().enumerate() {
+    for (i, &group) in parity.iter().enumerate() {
         put(&mut sent[own + i * z..], group, z);
     }
 }

@@ -3,7 +3,7 @@ use mathlib.Core.Path.{_≡_, refl, sym, ap, _∙_, subst, subst₂}
 use mathlib.Core.Bool.{Bool, true, false, not}
 use mathlib.Core.List.{List}
 use Prim.Native.Nat.{ℕ, suc, _+_, _-_, _*_, _/_, _%_, _≤_, _<_}
-use native.Mathlib.Nat.{le-antisymm, zero-add, add-comm, suc-mul, mul-le-mul, mul-le-mul-right, mod-lt, mod-eq-of-lt, mod-eq-sub-mod, div-add-mod', div-lt-iff-lt-mul}
+use native.Mathlib.Nat.{le-antisymm, zero-add, add-comm, suc-mul, mul-le-mul-right, mod-lt, mod-eq-of-lt, mod-eq-sub-mod, div-add-mod', div-lt-iff-lt-mul}
 use native.Mathlib.Numerals.{add-one}
 use native.Mathlib.Omega.{arith}
 use lib.Arith.{digits-lt}

@@ -1,7 +1,7 @@
 // The parity columns past the staircase: each is its own row's sum over all columns before it.
 use crate::run;
 use crate::sums;
-ghost use Prim.Native.Nat.{_+_, _*_, _≤_, _<_};
+ghost use Prim.Native.Nat.{_+_, _*_, _<_};
 ghost use Rattle.parity.specs.steps.Grouped.{Codable, Begun};
 ghost use Rattle.parity.specs.steps.Runs.{Run, copied, Sums, Adding};
 

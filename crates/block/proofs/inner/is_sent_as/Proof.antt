@@ -42,7 +42,7 @@ gather-requires c κs =
     let st = c .before .before .before .before .before .before in
     let a = st .args in
     let R = now (a .profile) in
-    (st .pre .own-fits, omega (arith, word-room R (a .plan) (some-fields R (a .plan) (st .pre .some)), st .pre .fits), st .pre .starts, st .pre .room)
+    (st .pre .own-fits, omega (arith, word-room R (a .plan) (some-fields R (a .plan) (st .pre .some)), st .pre .fits), omega (arith, st .pre .starts), st .pre .room)
 
 is-even-requires : tie.Need-is-even-requires
 is-even-requires c κs =

@@ -1,6 +1,7 @@
 -- `coding::receiving::rebuild_bits` meets its contract.
 use mathlib.Core.Path.{sym, _∙_}
 use Prim.Native.Nat.{ℕ}
+use native.Mathlib.Omega.{arith}
 use lib.ListN.{replicate}
 use lib.Seq.{length-take-le}
 use denote.Ref.{now}
@@ -17,7 +18,7 @@ size-requires c κs = let st = c .before .before .before in record { octets = st
 start-requires : tie.Need-start-requires
 start-requires c κs =
     let st = c .before .before .before .before in
-    (record { octets = st .pre .0 .octets; taken = st .pre .0 .receivable .taken; plan = st .pre .0 .plan }, versioned _ _ (st .pre .0 .receivable .version))
+    (record { octets = st .pre .0 .octets; taken = st .pre .0 .receivable .taken; plan = st .pre .0 .plan }, omega (arith, versioned _ _ (st .pre .0 .receivable .version)))
 
 array-borrow-prefix-word : tie.Need-array-borrow-prefix-word
 array-borrow-prefix-word c = c .before .size .ensures .1

@@ -1,6 +1,7 @@
 -- `coding::sending::send_bits` meets its contract.
 use mathlib.Core.Path.{sym, _∙_}
 use Prim.Native.Nat.{ℕ}
+use native.Mathlib.Omega.{arith}
 use lib.ListN.{replicate}
 use lib.Seq.{length-take-le}
 use denote.Ref.{now}
@@ -15,7 +16,7 @@ size-requires : tie.Need-size-requires
 size-requires c κs = let st = c .before .before .before in st .pre .ready .some
 
 start-requires : tie.Need-start-requires
-start-requires c κs = let st = c .before .before .before .before in (st .pre .ready .some, versioned _ _ (st .pre .version))
+start-requires c κs = let st = c .before .before .before .before in (st .pre .ready .some, omega (arith, versioned _ _ (st .pre .version)))
 
 array-borrow-prefix-room : tie.Need-array-borrow-prefix-room
 array-borrow-prefix-room c = c .before .size .ensures .1
