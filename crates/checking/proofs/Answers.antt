@@ -135,7 +135,7 @@ module _ (R : List ℕ) (z' : ℕ) (word : List ℕ) (room : ℕ) where
       long-is : n * z' ≡ rows R * z'
       long-is = ap (λ (x : ℕ). x * z') n-is
 
-      -- the rows are at most 12 groups of 81
+      -- the rows are at most 40 groups of 81
       pub rows-most : n * z' ≤ 3240
       rows-most =
           let shape = fit R z' word (sym found ∙ done) .shape in

@@ -52,7 +52,7 @@ pub fn row_sum(table: &[u8], columns: usize, z: usize, word: &[u8], row: usize) 
     sum
 }
 
-// "A word of (kb+m)·z bits checks when every row of the spread-out matrix sums to an even number over it."
+// "a word has (kb+m+x)·z bits" (document 02, CR 3), and it "checks when every row of the spread-out matrix sums to an even number over it".
 pub fn rows_even(table: &[u8], rows: usize, columns: usize, z: usize, word: &[u8]) -> bool
     requires { ⌜ Shape (now table) rows columns z × (length (now word) ≡ columns * z) ⌝ }
     ensures { λ r. ⌜ r ≡ checks (now (table .entry)) rows columns z (now (word .entry)) ⌝ }

@@ -92,12 +92,12 @@ pub fn cut_number(profile: &[u8], octets: usize, terms: Terms, g: CodedBits) -> 
         return BLOCK_LENGTH;
     }
     let kind = profile::inner::kind(profile);
-    let version = matching::inner::is_misversioned(kind, terms.rv);
-    let allocation = is_misallocated(terms, g);
-    if version {
+    let misversioned = matching::inner::is_misversioned(kind, terms.rv);
+    let misallocated = is_misallocated(terms, g);
+    if misversioned {
         return VERSION;
     }
-    if allocation {
+    if misallocated {
         return PARAMETER;
     }
     number

@@ -5,14 +5,14 @@ use bits::count::Terms;
 use checking::Checker;
 use cutting::Plan;
 ghost use mathlib.Core.Path.{_≡_};
-ghost use Prim.Native.Nat.{_+_, _≤_};
+ghost use Prim.Native.Nat.{_≤_};
 ghost use lib.ListN.{length};
-ghost use Rattle.cutting.specs.Plan.{blocks};
 ghost use Rattle.block.specs.steps.Blocks.{Fits};
 ghost use Rattle.coding.specs.steps.Sending.{versionStart};
 ghost use Rattle.coding.specs.steps.Receiving.{ReceivablePlan, Rebuilt};
 
-// Whether transport bits are sent as these bits, each block from the place `from` of its coded word on. The transport bits are laid in front of `room` on the way; `word` is room for one coded block.
+// Whether transport bits are sent as these bits, each block from the place `from` of its coded word on.
+// The transport bits are laid in front of `room` on the way; `word` is room for one coded block.
 fn rebuild(
     profile: &[u8],
     plan: Plan,

@@ -1,4 +1,4 @@
--- No statement is empty: with the toy profile of document 01, and one of type 2, there are sendings and receptions that are accepted, and every refusal
+-- No statement is empty: with the toy profile of document 01, and one of Type 2, there are sendings and receptions that are accepted, and every refusal
 -- from 1 to 14, and 16, is reached. The searches of 14 and of what is received are never computed; the laws decide them.
 use mathlib.Core.Path.{_≡_, refl, sym, ap, _∙_, subst}
 use mathlib.Core.Bool.{false, true≢false}
@@ -60,7 +60,7 @@ use Rattle.shelf.specs.Shelf as shelves
 unfoldable pub bent : List ℕ
 bent = set toy 19 1
 
--- 5 "for a type other than 1 or 2, an x against these rules": type 3, and type 1 with x 1; 6 "for a bad extension": 1 for 0 in an extension row's own column
+-- 5 "for a type other than 1 or 2, an x against these rules": Type 3, and Type 1 with x 1; 6 "for a bad extension": 1 for 0 in an extension row's own column
 unfoldable pub untyped : List ℕ
 untyped = set typeTwo 7 3
 
@@ -70,7 +70,7 @@ mistyped = set typeTwo 7 1
 unfoldable pub unextended : List ℕ
 unextended = set typeTwo 33 1
 
--- "16, between 7 and 8, for an rv over 3 or against the type": the toy is of type 1, so rv 1 is against it; and N_L 9 besides, which 8 would refuse
+-- "16, between 7 and 8, for an rv over 3 or against the type": the toy is of Type 1, so rv 1 is against it; and N_L 9 besides, which 8 would refuse
 abbrev pub versioned : Terms
 versioned = termsOf 1 2 1
 
@@ -233,7 +233,7 @@ unfolding misversioned misallocated usable tooFewPlaces someWithoutRoom sendable
     sizeIndexFor sizeIndex places filler
 room-256 = roomy 256 (record { taken = planned; version = refl; allocation = refl; enough = refl; room = refl })
 
--- and for each rv of type 2: octet A5 with G 176
+-- and for each rv of Type 2: octet A5 with G 176
 planned-two : planNumber typeTwo 1 ≡ 0
 unfolding planNumber answered typeTwo numberAt sumBelow allBelow anyBelow kb m x kind t z offset rows columns tableSize table entry kindRight headerRight rises sizesRight offsetDue offsetsRight endsRight shiftRight tableRight
     wellFormed filled filledBetween firstColumn nextDue nextColumn staircase rowEnds extensionRow extended staircases ceil blockBits kmax blocks
@@ -285,7 +285,7 @@ pub accepted : {r : Written} {buf' : List ℕ} → Received toy 8 toyTerms (unpa
 accepted v =
     returned toy (0x01 ∷ []) toyTerms 128 (unpacked p10Octets) (0x55 ∷ 0xAA ∷ []) (room-128 .direct) (one-octet 0x01 (lit< tt)) (lit≤ tt) sent-128 v
 
--- and with type 2: what A5 is sent as with rv 3
+-- and with Type 2: what A5 is sent as with rv 3
 sent-two : radioBits typeTwo (blockBits 1) (transport (0xA5 ∷ [])) (termsOf 1 2 3) 176 ≡ unpacked a5With3
 unfolding versions typeTwoSent sentWith listBelow blocks ceil kmax kb t z typeTwo numberAt blockBits
 sent-two = ap (λ (l : List (List ℕ)). drop 13 (getD l 8 [])) worked-versions
@@ -410,7 +410,7 @@ copied-refused fits v =
 
 -- ---- the least G of one octet
 
--- kb 2, m 3, x 0, type 1 and one z of 3
+-- kb 2, m 3, x 0, Type 1 and one z of 3
 unfoldable pub uneven : List ℕ
 uneven =
     0x00 ∷ 0x02 ∷ 0x00 ∷ 0x03 ∷ 0x00 ∷ 0x00 ∷ 0x00 ∷ 0x01 ∷ 0x00 ∷ 0x01 ∷ 0x00 ∷ 0x03 ∷ 0x00 ∷ 0x0E

@@ -33,7 +33,7 @@ use Rattle.demands.specs.Steps.{Steps}
 use Rattle.demands.proofs.Demand2.{sends, sends-only}
 use Rattle.demands.proofs.Demand3 as demand3
 
--- ---- 16 is "for an rv over 3 or against the type": type 2 may have 0 to 3, and "Type 1 requires rv 0"
+-- ---- 16 is "for an rv over 3 or against the type": Type 2 may have 0 to 3, and "Type 1 requires rv 0"
 
 pub version-2 : (kind rv : ℕ) → kind ≡ 2 → rv ≤ 3 → misversioned kind rv ≡ false
 unfolding misversioned
@@ -152,7 +152,7 @@ module _ {R : List ℕ} (taken : judged R ≡ 0) where
 pub start-lies : (rv d : ℕ) → rv ≤ 3 → startOf 2 rv d ≤ d
 start-lies rv d low = start-within 2 rv d low
 
--- rv 0 starts at the first place, and so does type 1: each gives what step 6 of document 01 gave
+-- rv 0 starts at the first place, and so does Type 1: each gives what step 6 of document 01 gave
 start-first : (kind d : ℕ) → startOf kind 0 d ≡ 0
 start-first kind d = equal-or kind 2 (λ e. omega (arith, start-two kind 0 d e)) (λ n. sym (start-one kind 0 d n))
 

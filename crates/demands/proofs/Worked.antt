@@ -1,4 +1,4 @@
--- "The cases marked P are checked against the definitions by a single table and a single statement", and those of type 2 by a second: the tables are in
+-- "The cases marked P are checked against the definitions by a single table and a single statement", and those of Type 2 by a second: the tables are in
 -- specs/Worked.
 use mathlib.Core.Path.{_≡_, refl, sym, ap, ap₂, _∙_}
 use mathlib.Core.Bool.{Bool, true, false, cond, not, _&&_}
@@ -81,7 +81,7 @@ worked = ap₂ (λ (x y : List (List ℕ)). x ++ y) words (ap₂ sendings transp
 pub empty : (w g : ℕ) → checksum w g [] ≡ 0
 empty w g = checksum-empty w g
 
--- ---- type 2 (document 02, CR 3): no choice of 12 parity bits is searched for; a word that checks is the coded block, as there is only one
+-- ---- Type 2 (document 02, CR 3): no choice of 12 parity bits is searched for; a word that checks is the coded block, as there is only one
 
 -- to unfold this is to unfold the record
 record-two : ℕ → ℕ

@@ -42,7 +42,7 @@ blockShare R octets terms g r =
 unfoldable pub codedLength : List ℕ → ℕ → ℕ
 codedLength R octets = blockPlaces R octets + rows R * z R (blockIndex R octets)
 
--- the place that a block's bits start from: "Type 2 starts rate matching at floor(D/4)·rv, D being the coded length" (CR 3), and type 1 at the first
+-- the place that a block's bits start from: "Type 2 starts rate matching at floor(D/4)·rv, D being the coded length" (CR 3), and Type 1 at the first
 unfoldable pub blockStart : List ℕ → ℕ → Terms → ℕ
 blockStart R octets terms = cond (eqb (kind R) 2) (codedLength R octets / 4 * terms .rv) 0
 

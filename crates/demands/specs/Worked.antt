@@ -1,5 +1,5 @@
--- The cases marked P of document 01, "Small profile and worked numbers", and those of CR 1, in one table, and those of CR 3 in a second: what the
--- definitions compute, and what is due.
+-- The cases marked P of document 01, "Small profile and worked numbers", and those of CR 1, in one table, and in a second cases of our own
+-- for CR 3: what the definitions compute, and what is due.
 use mathlib.Core.List.{List, [], _∷_, _++_}
 use Prim.Native.Nat.{ℕ}
 use lib.ListN.{take, replicate}
@@ -15,7 +15,7 @@ use Rattle.matching.specs.Matching.{matchedFrom}
 use Rattle.coding.specs.Allocation.{share}
 use Rattle.coding.specs.Joining.{radioBits}
 
--- "The toy record has kb 1, m 3, one z of 2"; "The toy record becomes 26 octets" (document 02, CR 3), with x 0 and type 1
+-- "The toy record has kb 1, m 3, one z of 2"; "The toy record becomes 26 octets" (document 02, CR 3), with x 0 and Type 1
 unfoldable pub toy : List ℕ
 toy =
     0x00 ∷ 0x01 ∷ 0x00 ∷ 0x03 ∷ 0x00 ∷ 0x00 ∷ 0x00 ∷ 0x01 ∷ 0x00 ∷ 0x01 ∷ 0x00 ∷ 0x02 ∷ 0x00 ∷ 0x0E
@@ -96,9 +96,9 @@ cases =
     ∷ record { computed = toySent (transport (0xC0 ∷ [])) 126; due = 32 ∷ 16 ∷ replicate 15 8 ++ 6 ∷ take 126 (unpacked c0With126) }
     ∷ []
 
--- ---- document 02, CR 3: type 2
+-- ---- Type 2 (document 02, CR 3), by a record of our own
 
--- kb 1, m 3, x 1, type 2 and one z of 3: 34 octets. The extension row reads columns 1 and 3, and its own column is 4.
+-- kb 1, m 3, x 1, Type 2 and one z of 3: 34 octets. The extension row reads columns 1 and 3, and its own column is 4.
 unfoldable pub typeTwo : List ℕ
 typeTwo =
     0x00 ∷ 0x01 ∷ 0x00 ∷ 0x03 ∷ 0x00 ∷ 0x01 ∷ 0x00 ∷ 0x02 ∷ 0x00 ∷ 0x01 ∷ 0x00 ∷ 0x03 ∷ 0x00 ∷ 0x0E

@@ -42,8 +42,8 @@ Reads a transport block of 1 to 2048 packed octets and writes the BITS bits that
   LAYERS            N_L, 1 to 4
   ORDER             Q_m, the bits of a symbol: 2, 4 or 6
   BITS              G, a multiple of N_L times Q_m up to 65536
-  --rv N            the redundancy version, 0 to 3, which says from where each code block is sent; 0 where it is not given, and with
-                    a profile of Type 1
+  --rv N            the redundancy version, 0 to 3, which says from where each code block is sent; 0 where it is not given.
+                    A profile of Type 1 takes 0 only
   --text            write bits as characters 0 and 1 with a line end behind, not as octets 0 and 1
 ",
     )

@@ -6,18 +6,18 @@ use Prim.Native.Nat.{ℕ, _+_, _-_, _%_, _≤_, _<_}
 use native.Mathlib.Nat.{mod-eq-of-lt}
 use native.Mathlib.Omega.{arith}
 use lib.ListN.{length, getD, take, drop, length-drop, List·getD-append}
-use lib.Seq.{getD-append-add, getD-drop, getD-take, length-take-le, take-all}
+use lib.Seq.{getD-append-add, getD-drop, getD-take, length-take-le}
 use Rattle.bits.specs.Bits.{AreBits, same}
 use Rattle.bits.proofs.Listed.{length-list, list-of}
 use Rattle.bits.proofs.Lists.{bits-append, bits-take, bits-drop, same-equal, same-self}
-use Rattle.bits.proofs.Ranges.{below-or, both, either-way}
+use Rattle.bits.proofs.Ranges.{both, either-way}
 use Rattle.matching.specs.Matching.{kept, matched, turned}
 use Rattle.matching.specs.steps.Places.{Filled}
 use Rattle.matching.specs.steps.Copies.{copiesAgree}
 use Rattle.matching.specs.steps.Line.{inLine, heard}
 use Rattle.matching.proofs.Runs.{kept-length}
 use Rattle.matching.proofs.Stretch.{sent-front, sent-copies, copies-sent}
-use Rattle.matching.proofs.Turned.{turned-length, turned-end, turned-back, turned-on, kept-turned, kept-fewer, kept-before}
+use Rattle.matching.proofs.Turned.{turned-length, turned-back, turned-on, kept-turned, kept-fewer, kept-before}
 
 -- ---- a stretch in line
 
@@ -30,13 +30,6 @@ unfolding inLine turned
 in-line-bits n k s h =
     bits-append (drop (n - k) (take n s)) (take (n - k) (take n s))
     (bits-drop (n - k) (take n s) (bits-take n s h)) (bits-take (n - k) (take n s) (bits-take n s h))
-
--- from the first place it is in line
-pub in-line-zero : (n : ℕ) (s : List ℕ) → inLine n 0 s ≡ take n s
-unfolding inLine
-in-line-zero n s =
-    let all : n - 0 ≡ n = omega arith in
-    ap (λ (x : ℕ). turned x (take n s)) all ∙ turned-end n (take n s) (below-or n (length s) (λ l. omega (arith, length-take-le n s (omega arith))) (λ l. omega (arith, ap length (take-all n s l))))
 
 -- ---- what it holds, place by place: the k that were sent last, and the others
 

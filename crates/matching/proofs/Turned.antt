@@ -3,7 +3,7 @@ use mathlib.Core.Path.{_≡_, refl, sym, ap, ap₂, _∙_}
 use mathlib.Core.List.{List, _++_, append-assoc, append-nil}
 use Prim.Native.Nat.{ℕ, _+_, _-_, _≤_}
 use native.Mathlib.Omega.{arith}
-use lib.ListN.{length, take, drop, length-append, length-drop, take-append-drop, drop-of-length-le}
+use lib.ListN.{length, take, drop, length-append, length-drop, take-append-drop}
 use lib.Seq.{getD-drop, getD-take, length-take-le, drop-drop, take-take, take-add, take-all, take-at, drop-at}
 use Rattle.bits.proofs.Ranges.{below-or}
 use Rattle.matching.specs.Matching.{kept, turned}
@@ -25,11 +25,6 @@ turned-length k s =
 pub turned-zero : (s : List ℕ) → turned 0 s ≡ s
 unfolding turned
 turned-zero s = append-nil s
-
--- from its end on a list is itself
-pub turned-end : (k : ℕ) (s : List ℕ) → length s ≤ k → turned k s ≡ s
-unfolding turned
-turned-end k s h = ap₂ (λ (x y : List ℕ). x ++ y) (drop-of-length-le s h) (take-all k s h)
 
 pub turned-back : (k : ℕ) (s : List ℕ) → k ≤ length s → turned (length s - k) (turned k s) ≡ s
 unfolding turned

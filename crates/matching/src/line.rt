@@ -42,7 +42,7 @@ fn lay_part(s: &[u8], from: usize, n: usize, out: &mut [u8], at: usize, e: Coded
 }
 
 // The kept places in the order in which they are sent, at most e of them, and how many: the two runs behind the start, and then those before it.
-// Where the start lies in a run or in the filler, a run is empty; no place is tested for a mark.
+// Of the four at least one is empty, and two where the start lies in the filler; no place is tested for a mark.
 pub fn line_up(
     coded: &[u8],
     own: usize,

@@ -10,7 +10,7 @@ use bits::number::VERSION;
 ghost use mathlib.Core.Path.{_≡_};
 ghost use mathlib.Core.Bool.{false};
 ghost use mathlib.Core.List.{[], _∷_, _++_};
-ghost use Prim.Native.Nat.{_+_, _-_, _≤_, _<_};
+ghost use Prim.Native.Nat.{_+_, _≤_, _<_};
 ghost use lib.Dec.{eqb};
 ghost use lib.ListN.{length, drop};
 ghost use Rattle.matching.specs.Matching.{kept, matched, turned};
@@ -116,9 +116,9 @@ pub fn match_number(coded: &[u8], kind: usize, rv: usize, e: CodedBits, room: us
     if !bits::inner::is_within(1, 2, kind) {
         return PROFILE;
     }
-    let against = is_misversioned(kind, rv);
+    let misversioned = is_misversioned(kind, rv);
     let unmatchable = is_unmatchable(coded, e);
-    if against {
+    if misversioned {
         return VERSION;
     }
     if unmatchable {

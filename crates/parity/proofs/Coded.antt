@@ -80,7 +80,7 @@ module _ (T : List ℕ) (rows columns z : ℕ) (sys : List ℕ) where
           ∙ take-append-drop (kb * z) w
 
     module _ {m : ℕ} (S : Solvable T kb m rows columns) where
-      -- a word that solves the staircase from the places is the block with one of the choices, and that choice checks
+      -- a word that solves the staircase and its extension from the places is the block with one of the choices, and that choice checks
       module _ (w : List ℕ) (h : Solution T kb m rows columns z sys w) where
         long-word : length w ≡ (kb + rows) * z
         long-word = h .size ∙ ap (λ (n : ℕ). n * z) (S .wide)
@@ -117,7 +117,7 @@ module _ (T : List ℕ) (rows columns z : ℕ) (sys : List ℕ) where
             solved = checked-solved T kb m rows columns z (coded T rows columns z sys) S coded-checks;
           }
 
-      -- a word that solves the staircase from the places is the coded block
+      -- a word that solves the staircase and its extension from the places is the coded block
       pub solved-coded : (w : List ℕ) → Solution T kb m rows columns z sys w → w ≡ coded T rows columns z sys
       solved-coded w h = solution-unique T kb m rows columns z some (S .wide) sys w (coded T rows columns z sys) h coded-solution
 

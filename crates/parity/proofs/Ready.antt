@@ -1,4 +1,4 @@
--- What a profile that is judged with 0 gives: tables of the right shape, which are staircases; and what coding by them comes to.
+-- What a profile that is judged with 0 gives: tables of the right shape, which are staircases with their extensions; and what coding by them comes to.
 use mathlib.Core.Path.{_≡_, ap, _∙_}
 use mathlib.Core.Bool.{true}
 use mathlib.Core.List.{List}

@@ -116,7 +116,7 @@ module _ (T : List ℕ) (kb m columns z : ℕ) (w : List ℕ) (S : Staircase T k
           s ∙ sum-join (suc kb) n (at i)
           ∙ ap (λ (x : ℕ). sumBelow (suc kb) (at i) + x) (sum-same n _ (stair i) (λ k l. ap (at i) (omega arith)) ∙ tail n i e h)
 
-  -- column kb over all rows: the two outer entries are equal
+  -- column kb over the staircase's rows: the two outer entries are equal
   pub column-sum : (n : ℕ) → suc n ≡ m → sumBelow m (λ i. at i kb) ≡ at 0 kb + lowBit w (kb * z + u) + at 0 kb
   unfolding term
   column-sum n e =

@@ -6,7 +6,7 @@ use Rattle.bits.specs.Bits.{digits}
 use Rattle.bits.specs.Ranges.{anyBelow, firstBelow}
 use Rattle.parity.specs.Matrix.{checks}
 
--- "K systematic places and then m·z parity bits": the word of the places sys with the n-th choice of parity bits
+-- "K systematic places" and then parity bits, by document 02, CR 3, (m+x)·z of them: the word of the places sys with the n-th choice of parity bits
 unfoldable pub withParity : ℕ → ℕ → List ℕ → ℕ → List ℕ
 withParity rows z sys n = sys ++ digits (rows * z) n
 
@@ -14,7 +14,7 @@ withParity rows z sys n = sys ++ digits (rows * z) n
 unfoldable pub checksWith : List ℕ → ℕ → ℕ → ℕ → List ℕ → ℕ → Bool
 checksWith T rows columns z sys n = checks T rows columns z (withParity rows z sys n)
 
--- there are parity bits with which the block checks: for every staircase table and all places there are, which is proved and not defined
+-- there are parity bits with which the block checks: for every staircase table with its extension and all places there are, which is proved and not defined
 unfoldable pub hasParity : List ℕ → ℕ → ℕ → ℕ → List ℕ → Bool
 hasParity T rows columns z sys = anyBelow (2 ^ (rows * z)) (checksWith T rows columns z sys)
 

@@ -20,7 +20,7 @@ spread T columns z row place = square z (entry T columns (row / z) (place / z)) 
 unfoldable pub bitAt : List ℕ → ℕ → ℕ
 bitAt w place = cond (eqb (getD w place 0) 2) 0 (getD w place 0)
 
--- "A word of (kb+m)·z bits checks when every row of the spread-out matrix sums to an even number over it"
+-- "a word has (kb+m+x)·z bits" (document 02, CR 3), and it "checks when every row of the spread-out matrix sums to an even number over it"
 unfoldable pub rowEven : List ℕ → ℕ → ℕ → List ℕ → ℕ → Bool
 rowEven T columns z w row = eqb (parityBelow (columns * z) (λ place. spread T columns z row place * bitAt w place)) 0
 

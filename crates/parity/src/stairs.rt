@@ -4,7 +4,7 @@ ghost use Prim.Native.Nat.{_+_, _-_, _*_, _≤_};
 ghost use lib.ListN.{length};
 ghost use Rattle.parity.specs.steps.Runs.{Groups, allRows, rowsAbove, Stacked};
 
-// The first parity column, at `at`: all rows together.
+// The first parity column, at `at`: the staircase's m rows together.
 pub fn lay_first(sums: &[u8], m: usize, z: usize, word: &mut [u8], at: usize)
     requires { ⌜ Stacked (now sums) m z × (at + z ≤ length (now word)) ⌝ }
     ensures { λ _. ⌜ Groups z 1 (allRows (now (sums .entry)) z m) (now (word .entry)) at (now (word .exit)) ⌝ }

@@ -4,7 +4,7 @@ ghost use mathlib.Core.Path.{_≡_};
 ghost use Prim.Native.Nat.{_≤_, _<_};
 ghost use lib.Dec.{eqb};
 ghost use Rattle.bits.specs.Ranges.{firstBelow};
-ghost use Rattle.profile.specs.Record.{kb, m, x, kind, t, z, rows, columns, table};
+ghost use Rattle.profile.specs.Record.{kb, m, kind, t, z, rows, columns, table};
 ghost use Rattle.profile.specs.Promises.{judged};
 
 // An entry that holds no shift: "255 for empty".
@@ -24,15 +24,7 @@ pub fn m(profile: &[u8]) -> usize
     parts::m(profile)
 }
 
-// How many rows the extension has.
-pub fn x(profile: &[u8]) -> usize
-    requires { ⌜ judged (now profile) ≡ 0 ⌝ }
-    ensures { λ r. ⌜ (r ≡ x (now (profile .entry))) × (r ≤ 37) ⌝ }
-{
-    parts::x(profile)
-}
-
-// The coding type.
+// The type, 1 or 2.
 pub fn kind(profile: &[u8]) -> usize
     requires { ⌜ judged (now profile) ≡ 0 ⌝ }
     ensures { λ r. ⌜ (r ≡ kind (now (profile .entry))) × (1 ≤ r) × (r ≤ 2) ⌝ }

@@ -13,7 +13,7 @@ pub struct Draft {
     pub kb: u16,
     pub m: u16,
     pub x: u16,
-    /// The coding type.
+    /// The type, 1 or 2.
     pub coding: u16,
     pub t: u16,
     pub sizes: Vec<u16>,

@@ -49,5 +49,5 @@ pub const UNSENT: Number = 14;
 
 // 15 is unused: every block has parity bits with which it checks (document 02, CR 6).
 
-/// The redundancy version is over 3, or against the coding type. It is tested between 7 and 8.
+/// The redundancy version is over 3, or against the type. It is tested between 7 and 8.
 pub const VERSION: Number = 16;

@@ -7,7 +7,7 @@ use crate::version::Version;
 
 const MOST_BITS: usize = 65_536;
 
-/// Matches one coded block alone, of a coding type and in a version: the count of bits written, or 5, 16,
+/// Matches one coded block alone, of a type and in a version: the count of bits written, or 5, 16,
 /// 8, 11, 12.
 pub fn rate(
     e: u64,
@@ -197,19 +197,19 @@ mod tests {
     #[test]
     fn filler_is_counted_where_it_starts() {
         // Places 0 to 3 are filler: place 2 lies among them, and place 4 is the first that is kept. A start
-        // by the kept ones would be their first, and their second.
+        // by the kept ones would be their second, and their third.
         let places = [2, 2, 2, 2, 1, 0, 0, 0];
         assert_eq!(rated_from(2, 1, 4, &places), Ok(vec![1, 0, 0, 0]));
         assert_eq!(rated_from(2, 2, 4, &places), Ok(vec![1, 0, 0, 0]));
         assert_eq!(rated_from(2, 3, 4, &places), Ok(vec![0, 0, 1, 0]));
-        // The start is the last filler place, and all that is kept stands before it.
+        // The start, place 6, is filler, and all that is kept stands before it.
         let places = [1, 0, 0, 0, 0, 0, 2, 2];
         assert_eq!(rated_from(2, 3, 7, &places), Ok(vec![1, 0, 0, 0, 0, 0, 1]));
     }
 
     #[test]
     fn the_coded_places_of_a_block_in_each_version() {
-        // Document 02, CR 3: 112 coded with its record, D 15, one place marked.
+        // 112 coded with the record of Type 2 of samples: D 15, one place marked.
         let places = [1, 1, 2, 0, 0, 0, 1, 1, 0, 1, 0, 1, 0, 1, 1];
         for (rv, bits) in [
             (0, [1, 1, 0, 0, 0, 1, 1, 0, 1, 0, 1, 0, 1, 1]),

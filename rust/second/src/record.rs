@@ -17,7 +17,7 @@ pub struct Profile {
     pub tables: Vec<Table>,
 }
 
-/// The coding type of 5G.212, section 5.1.3.2.
+/// The type of 5G.212, section 5.1.3.2.
 #[derive(Clone, Copy, Debug, PartialEq, Eq)]
 pub enum Coding {
     One,

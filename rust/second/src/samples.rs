@@ -98,7 +98,7 @@ pub fn plain(kb: u16, m: u16, sizes: &[u16]) -> Draft {
     Draft::new(kb, m, sizes.iter().map(table).collect())
 }
 
-/// The record of Type 2 with which the redundancy versions are worked out (document 02, CR 3): kb 1, m 3,
+/// The record of Type 2 with which the redundancy versions were worked out beforehand: kb 1, m 3,
 /// x 1, one z of 3.
 #[cfg(test)]
 pub const EXTENDED: [u8; 34] = [

@@ -5,7 +5,7 @@ use crate::record::Coding;
 
 const HIGHEST: u64 = 3;
 
-/// A redundancy version that goes with its coding type: where rate matching starts.
+/// A redundancy version that goes with its type: where rate matching starts.
 #[derive(Clone, Copy, Debug, PartialEq, Eq)]
 pub struct Version {
     coding: Coding,
@@ -13,7 +13,7 @@ pub struct Version {
 }
 
 impl Version {
-    /// The version of an rv with a coding type, or 16 "for an rv over 3 or against the type".
+    /// The version of an rv with a type, or 16 "for an rv over 3 or against the type".
     pub fn new(coding: Coding, rv: u64) -> Result<Version, Number> {
         match usize::try_from(rv) {
             // "Type 1 requires rv 0".

@@ -380,7 +380,7 @@ fn version_words(random: &mut Random) -> &'static [u8] {
     random.pick(&words)
 }
 
-/// The same for the coding type, alone and with a redundancy version.
+/// The same for the type, alone and with a redundancy version.
 fn type_words(random: &mut Random) -> &'static [u8] {
     let words: [&[u8]; 26] = [
         b"type=1",

@@ -423,7 +423,7 @@ fn the_lowest_number_is_answered() {
 
 #[test]
 fn a_word_of_type_2() {
-    // Document 02, CR 3: "places 112 give 112000110101011".
+    // The word worked out for the record of samples: two bits and a filler.
     let word = [1, 1, 2, 0, 0, 0, 1, 1, 0, 1, 0, 1, 0, 1, 1];
     assert_eq!(coded(&EXTENDED, 3, &[1, 1, FILLER]), Ok(word.to_vec()));
     let read: Vec<u8> = word.iter().map(|place| place % FILLER).collect();

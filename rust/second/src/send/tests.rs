@@ -250,13 +250,13 @@ fn the_lowest_number_is_answered() {
 
 #[test]
 fn octet_a5_in_each_version() {
-    // Document 02, CR 3.
+    // Worked out beforehand.
     for (rv, hex) in (0..).zip(EXTENDED_SENT) {
         let asked = with_version(rv, asked(1, 2, 176));
         let bits = sent(&EXTENDED, &[0xa5], asked);
         assert_eq!(bits, Ok(bits_of_hex(hex, 176)), "{rv}");
     }
-    // "rv 4: 16, with an empty block 7, with N_L 9 16".
+    // An rv over 3: 16; behind 7, and before 8.
     let four = with_version(4, asked(1, 2, 176));
     assert_eq!(sent(&EXTENDED, &[0xa5], four), Err(VERSION));
     assert_eq!(sent(&EXTENDED, &[], four), Err(BLOCK_LENGTH));

@@ -20,7 +20,7 @@ z 2 # its only size
 -  1 - 0
 ";
 
-/// The record of Type 2 of document 02, CR 3.
+/// The record of Type 2 of samples.
 const EXTENDED_TEXT: &str = "\
 tenant 0 profile 9 kb 1 m 3 x 1 type 2
 z 3

@@ -90,8 +90,8 @@ pub fn count(text: &str, output: &mut impl Write) -> io::Result<()> {
     }
     writeln!(
         output,
-        "\n{full} of {} rows hold what is due. Of the {} extension rows {zeros} have their 0 where it is due; of \
-         these, {both} hold what is due.",
+        "\n{full} of {} rows hold {due} numbers. Of the {} extension rows {zeros} have their 0 where it is due; of \
+         these, {both} hold {due}.",
         THIRD.rows(),
         THIRD.x
     )

@@ -70,7 +70,7 @@ fn rows_are_told_what_is_wrong_with_them() {
         "| 6 | 60 (30 + 30) | **28** | 26 | 0 too late by 2 |",
         "| 7 | **5** (2 + 3) | **1** | 27 | its first line is cut after 2; 55 too few; 0 too early by 26 |",
         "| 8 | **61** (31 + 30) | 28 | 28 | 1 too many |",
-        "37 of 40 rows hold what is due. Of the 36 extension rows 2 have their 0 where it is due; of these, 1 hold what is due.",
+        "37 of 40 rows hold 60 numbers. Of the 36 extension rows 2 have their 0 where it is due; of these, 1 hold 60.",
     ] {
         assert!(page.contains(&format!("{line}\n")), "{line}\n{page}");
     }
