@@ -1,5 +1,5 @@
 //! Records that are known from the documents: the toy, and Type 1 tables of 5G.212 v2.3. For tests also
-//! the toy spoiled, a small record of z 5, and single bits.
+//! the toy spoiled, a small record of z 5, single bits, and an empty folder.
 
 use crate::draft::{with_staircase, Draft, Rows, EMPTY};
 #[cfg(test)]
@@ -223,6 +223,15 @@ fn entries(row: &[i16]) -> Vec<u8> {
     row.iter()
         .map(|&number| u8::try_from(number).unwrap_or(EMPTY))
         .collect()
+}
+
+/// A folder that is empty at first, for one test.
+#[cfg(test)]
+pub fn folder(name: &str) -> std::path::PathBuf {
+    let folder = std::env::temp_dir().join(format!("second-{}-{name}", std::process::id()));
+    let _ = std::fs::remove_dir_all(&folder);
+    std::fs::create_dir(&folder).unwrap();
+    folder
 }
 
 #[cfg(test)]

@@ -58,18 +58,9 @@ mod tests {
 
     #[test]
     fn type_2_starts_at_quarters() {
-        assert_eq!(
-            (0..4)
-                .map(|rv| start(2, rv, 15).unwrap())
-                .collect::<Vec<_>>(),
-            [0, 3, 6, 9]
-        );
-        assert_eq!(
-            (0..4)
-                .map(|rv| start(2, rv, 16).unwrap())
-                .collect::<Vec<_>>(),
-            [0, 4, 8, 12]
-        );
+        for (d, starts) in [(15, [0, 3, 6, 9]), (16, [0, 4, 8, 12])] {
+            assert_eq!([0, 1, 2, 3].map(|rv| start(2, rv, d)), starts.map(Ok));
+        }
         // Below four places a quarter is none.
         for d in 0..4 {
             for rv in 0..4 {

@@ -1,13 +1,12 @@
 //! Whole files: shelves and texts of requests.
 
 use std::fs;
-use std::path::PathBuf;
 
 use super::{rewrite, rewritten, Done};
 use crate::answer::answer;
 use crate::draft::ShelfDraft;
 use crate::lines::LINE_ROOM;
-use crate::samples::TOY;
+use crate::samples::{folder, TOY};
 use crate::words::SHELF_ROOM;
 
 const OLD_TOY: &str = "0001000300010002000A000100FF01000000FF01FF00";
@@ -27,14 +26,6 @@ fn shelf(tenant: u16, record: &[u8]) -> Vec<u8> {
 fn text(old: &str) -> (String, Done) {
     let (new, done) = rewritten(old.as_bytes()).unwrap();
     (String::from_utf8(new).unwrap(), done)
-}
-
-/// A folder that is empty at first, for one test.
-fn folder(name: &str) -> PathBuf {
-    let folder = std::env::temp_dir().join(format!("second-{}-{name}", std::process::id()));
-    let _ = fs::remove_dir_all(&folder);
-    fs::create_dir(&folder).unwrap();
-    folder
 }
 
 #[test]

@@ -6,10 +6,10 @@ use std::path::{Path, PathBuf};
 use super::text::{self, Fault};
 use super::{make, SHELVES};
 use crate::record::{profile, Coding};
-use crate::samples::{five_sixths, EXTENDED, TOY};
+use crate::samples::{five_sixths, folder, EXTENDED, TOY};
 use crate::shelf::{lookup, Asked, Side};
 
-/// The toy record of document 01, as the text of a public shelf.
+/// The toy record, as the text of a public shelf.
 const TOY_TEXT: &str = "\
 # The toy.
 tenant 0 profile 7 kb 1 m 3 x 0 type 1
@@ -29,14 +29,6 @@ z 3
 1  1 - 0  -
 -  2 - 1  0
 ";
-
-/// A folder that is empty at first, for one test.
-fn folder(name: &str) -> PathBuf {
-    let folder = std::env::temp_dir().join(format!("second-{}-{name}", std::process::id()));
-    let _ = fs::remove_dir_all(&folder);
-    fs::create_dir(&folder).unwrap();
-    folder
-}
 
 /// The folder of the repository's shelves.
 fn shipped() -> PathBuf {
@@ -61,8 +53,13 @@ fn with_line(line: usize, changed: &str) -> String {
 
 #[test]
 fn a_text_gives_its_shelf() {
-    let entry = [0, 1, 0, 0, 0, 7, 0, 10, 0, 26];
-    assert_eq!(public(TOY_TEXT), Ok([&entry[..], &TOY].concat()));
+    let toy = [0, 1, 0, 0, 0, 7, 0, 10, 0, 26];
+    assert_eq!(public(TOY_TEXT), Ok([&toy[..], &TOY].concat()));
+    let extended = [0, 1, 0, 0, 0, 9, 0, 10, 0, 34];
+    assert_eq!(
+        public(EXTENDED_TEXT),
+        Ok([&extended[..], &EXTENDED].concat())
+    );
 }
 
 #[test]
@@ -375,12 +372,6 @@ fn the_repositorys_records_are_accepted_profiles() {
 fn rate_five_sixths_is_the_sample_that_was_copied_apart() {
     let (_, record) = shipped_record(1, 56).unwrap();
     assert_eq!(record, five_sixths().octets());
-}
-
-#[test]
-fn a_text_of_type_2_gives_its_shelf() {
-    let entry = [0, 1, 0, 0, 0, 9, 0, 10, 0, 34];
-    assert_eq!(public(EXTENDED_TEXT), Ok([&entry[..], &EXTENDED].concat()));
 }
 
 #[test]
