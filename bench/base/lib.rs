@@ -49,6 +49,16 @@ checksums! {
 }
 
 #[no_mangle]
+pub unsafe extern "C" fn plain_crc_of_block(bits: *const u8, count: usize) -> u32 {
+    plain::checksum::of_block_bits(read(bits, count))
+}
+
+#[no_mangle]
+pub unsafe extern "C" fn limit_crc_of_block(bits: *const u8, count: usize) -> u32 {
+    limit::checksum::of_block_bits(read(bits, count))
+}
+
+#[no_mangle]
 pub unsafe extern "C" fn plain_judge(record: *const u8, octets: usize) -> u32 {
     number(plain::judge::judge(read(record, octets)))
 }
@@ -61,15 +71,16 @@ pub unsafe extern "C" fn limit_judge(record: *const u8, octets: usize) -> u32 {
 
 /// The code blocks of a plan, 0 where it is refused.
 #[no_mangle]
-pub unsafe extern "C" fn plain_plan(record: *const u8, octets: usize, length: usize) -> usize {
+pub unsafe extern "C" fn plain_plan(record: *const u8, octets: usize, edition: usize, length: usize) -> usize {
     let record = read(record, octets);
-    let plan = plain::judge::judge(record).and_then(|()| record::planned(&record::Profile::of(record), length));
+    let plan =
+        plain::judge::judge(record).and_then(|()| record::planned(&record::Profile::of(record), edition, length));
     plan.map_or(0, |plan| plan.blocks)
 }
 
 #[no_mangle]
-pub unsafe extern "C" fn limit_plan(record: *const u8, octets: usize, length: usize) -> usize {
-    plain_plan(record, octets, length)
+pub unsafe extern "C" fn limit_plan(record: *const u8, octets: usize, edition: usize, length: usize) -> usize {
+    plain_plan(record, octets, edition, length)
 }
 
 macro_rules! matches {
@@ -127,9 +138,10 @@ macro_rules! sends {
         #[no_mangle]
         pub unsafe extern "C" fn $name(
             record: *const u8, octets: usize, block: *const u8, length: usize,
-            nl: usize, qm: usize, rv: usize, g: usize, out: *mut u8, room: usize,
+            nl: usize, qm: usize, rv: usize, edition: usize, g: usize, out: *mut u8, room: usize,
         ) -> u32 {
-            number($call(read(record, octets), read(block, length), Terms { nl, qm, rv, g }, write(out, room)))
+            let terms = Terms { nl, qm, rv, edition, g };
+            number($call(read(record, octets), read(block, length), terms, write(out, room)))
         }
     )* };
 }
@@ -143,10 +155,11 @@ macro_rules! receives {
     ($($name:ident $call:path;)*) => { $(
         #[no_mangle]
         pub unsafe extern "C" fn $name(
-            record: *const u8, octets: usize, a: usize, nl: usize, qm: usize, rv: usize,
+            record: *const u8, octets: usize, a: usize, nl: usize, qm: usize, rv: usize, edition: usize,
             bits: *const u8, g: usize, out: *mut u8, room: usize,
         ) -> u32 {
-            number($call(read(record, octets), a, Terms { nl, qm, rv, g }, read(bits, g), write(out, room)))
+            let terms = Terms { nl, qm, rv, edition, g };
+            number($call(read(record, octets), a, terms, read(bits, g), write(out, room)))
         }
     )* };
 }
@@ -168,20 +181,22 @@ macro_rules! hosted {
         #[no_mangle]
         pub unsafe extern "C" fn $send(
             private: *const u8, own: usize, public: *const u8, others: usize, tenant: u16, profile: u16,
-            block: *const u8, length: usize, nl: usize, qm: usize, rv: usize, g: usize, out: *mut u8, room: usize,
+            block: *const u8, length: usize, nl: usize, qm: usize, rv: usize, edition: usize, g: usize,
+            out: *mut u8, room: usize,
         ) -> u32 {
             let found = $found(read(private, own), read(public, others), tenant, profile);
-            let terms = Terms { nl, qm, rv, g };
+            let terms = Terms { nl, qm, rv, edition, g };
             number(found.and_then(|record| $sent(record, read(block, length), terms, write(out, room))))
         }
 
         #[no_mangle]
         pub unsafe extern "C" fn $receive(
             private: *const u8, own: usize, public: *const u8, others: usize, tenant: u16, profile: u16,
-            a: usize, nl: usize, qm: usize, rv: usize, bits: *const u8, g: usize, out: *mut u8, room: usize,
+            a: usize, nl: usize, qm: usize, rv: usize, edition: usize, bits: *const u8, g: usize,
+            out: *mut u8, room: usize,
         ) -> u32 {
             let found = $found(read(private, own), read(public, others), tenant, profile);
-            let terms = Terms { nl, qm, rv, g };
+            let terms = Terms { nl, qm, rv, edition, g };
             number(found.and_then(|record| $received(record, a, terms, read(bits, g), write(out, room))))
         }
     )* };

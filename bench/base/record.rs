@@ -1,5 +1,5 @@
 //! What both baselines share: the numbers of a judged record, how a block is cut and from where it is sent, and the
-//! refusals 7 to 10 and 16.
+//! refusals 7 to 10, 16 and 19.
 
 /// Two octets, the high one first.
 pub fn number(octets: &[u8], at: usize) -> usize {
@@ -69,12 +69,13 @@ pub fn start(kind: usize, rv: usize, coded: usize) -> usize {
     }
 }
 
-/// N_L, Q_m, the redundancy version and G.
+/// N_L, Q_m, the redundancy version, the edition and G.
 #[derive(Clone, Copy)]
 pub struct Terms {
     pub nl: usize,
     pub qm: usize,
     pub rv: usize,
+    pub edition: usize,
     pub g: usize,
 }
 
@@ -98,12 +99,19 @@ pub struct Plan {
     pub places: usize,
     pub z: usize,
     pub index: usize,
+    /// The bits of each block's checksum: 24, or 0 where it has none.
+    pub sums: usize,
 }
 
 impl Plan {
-    /// The bits that block r carries.
+    /// Block r's own bits.
     pub fn own(&self, r: usize) -> usize {
         self.bits / self.blocks + (r < self.bits % self.blocks) as usize
+    }
+
+    /// The bits that block r carries: its own and its checksum's.
+    pub fn carried(&self, r: usize) -> usize {
+        self.own(r) + self.sums
     }
 
     /// The radio bits of the blocks: the symbol places that do not go round evenly are the first blocks'.
@@ -129,21 +137,31 @@ impl Shares {
     }
 }
 
-/// The plan of a block of so many octets, or 9.
-fn cut(profile: &Profile, octets: usize) -> Result<Plan, u32> {
+/// The plan of a block of so many octets, or 9. In edition 2 blocks have checksums where one block is not enough, and
+/// none can be cut where its checksum would fill it.
+fn cut(profile: &Profile, edition: usize, octets: usize) -> Result<Plan, u32> {
     let bits = 8 * octets + 24;
-    let blocks = bits.div_ceil(profile.kb * profile.z(profile.sizes - 1));
+    let widest = profile.kb * profile.z(profile.sizes - 1);
+    let sums = if edition == 2 && bits > widest { 24 } else { 0 };
+    if widest <= sums {
+        return Err(9);
+    }
+    let blocks = bits.div_ceil(widest - sums);
     if blocks > 64 {
         return Err(9);
     }
-    let most = bits.div_ceil(blocks);
+    let most = bits.div_ceil(blocks) + sums;
     let fits = |&index: &usize| most <= profile.kb * profile.z(index);
     let index = (0..profile.sizes).find(fits).unwrap_or(profile.sizes - 1);
     let z = profile.z(index);
-    Ok(Plan { bits, blocks, places: profile.kb * z, z, index })
+    Ok(Plan { bits, blocks, places: profile.kb * z, z, index, sums })
 }
 
-fn length_accepted(octets: usize) -> Result<(), u32> {
+/// 19 and 7, in this order.
+fn length_accepted(edition: usize, octets: usize) -> Result<(), u32> {
+    if !matches!(edition, 1 | 2) {
+        return Err(19);
+    }
     if (1..=2048).contains(&octets) {
         Ok(())
     } else {
@@ -151,22 +169,22 @@ fn length_accepted(octets: usize) -> Result<(), u32> {
     }
 }
 
-/// The plan of a block alone, or 7 or 9.
-pub fn planned(profile: &Profile, octets: usize) -> Result<Plan, u32> {
-    length_accepted(octets)?;
-    cut(profile, octets)
+/// The plan of a block alone, or the first of 19, 7 and 9.
+pub fn planned(profile: &Profile, edition: usize, octets: usize) -> Result<Plan, u32> {
+    length_accepted(edition, octets)?;
+    cut(profile, edition, octets)
 }
 
-/// The plan of a transfer, or the first of 7, 16 and 8 to 10.
+/// The plan of a transfer, or the first of 19, 7, 16 and 8 to 10.
 pub fn accepted(profile: &Profile, octets: usize, terms: Terms) -> Result<Plan, u32> {
-    length_accepted(octets)?;
+    length_accepted(terms.edition, octets)?;
     if misversioned(profile.kind, terms.rv) {
         return Err(16);
     }
     if terms.refused() {
         return Err(8);
     }
-    let plan = cut(profile, octets)?;
+    let plan = cut(profile, terms.edition, octets)?;
     if terms.symbols() < plan.blocks {
         return Err(10);
     }

@@ -4,6 +4,7 @@
 
 #define CALLS(P)                                                                                                       \
     crc_call P##_crc, P##_crc_of_bits;                                                                                 \
+    block_crc_call P##_crc_of_block;                                                                                   \
     judge_call P##_judge;                                                                                              \
     plan_call P##_plan;                                                                                                \
     match_call P##_match;                                                                                              \
@@ -15,9 +16,9 @@
     hosted_send_call P##_hosted_send;                                                                                  \
     hosted_receive_call P##_hosted_receive;
 #define SIDE(NAME, P)                                                                                                  \
-    { NAME,      P##_crc,   P##_crc_of_bits, P##_judge,  P##_plan,        P##_match,                                   \
-      P##_code,  P##_check, P##_send,        P##_receive, P##_lookup,     P##_hosted_send,                             \
-      P##_hosted_receive }
+    { NAME,        P##_crc,    P##_crc_of_bits, P##_crc_of_block, P##_judge,                                           \
+      P##_plan,    P##_match,  P##_code,        P##_check,        P##_send,                                            \
+      P##_receive, P##_lookup, P##_hosted_send, P##_hosted_receive }
 
 CALLS(product)
 CALLS(plain)
@@ -69,24 +70,27 @@ static uint64_t run_hosted(const struct side *s, const struct job *j) {
         return s->lookup(j->private, j->private_length, j->public, j->public_length, j->tenant, j->profile);
     if (j->kind == HOSTED_SEND)
         return s->hosted_send(j->private, j->private_length, j->public, j->public_length, j->tenant, j->profile, j->input,
-                              j->input_length, j->nl, j->qm, j->rv, j->g, output, j->room);
+                              j->input_length, j->nl, j->qm, j->rv, j->edition, j->g, output, j->room);
     return s->hosted_receive(j->private, j->private_length, j->public, j->public_length, j->tenant, j->profile, j->a, j->nl,
-                             j->qm, j->rv, j->input, j->input_length, output, j->room);
+                             j->qm, j->rv, j->edition, j->input, j->input_length, output, j->room);
 }
 
 uint64_t run(const struct side *s, const struct job *j) {
     switch (j->kind) {
     case CRC: return s->crc(j->z, j->input, j->input_length);
     case CRC_OF_BITS: return s->crc_of_bits(j->z, j->input, j->input_length);
-    case PLAN: return s->plan(j->record, j->record_length, j->z);
+    case CRC_OF_BLOCK: return s->crc_of_block(j->input, j->input_length);
+    case PLAN: return s->plan(j->record, j->record_length, j->edition, j->z);
     case MATCH: return s->match(j->input, j->input_length, j->z, j->rv, j->g, output, j->room);
     case JUDGE: return s->judge(j->record, j->record_length);
     case CODE: return s->code(j->record, j->record_length, j->z, j->input, j->input_length, output, j->room);
     case CHECK: return s->check(j->record, j->record_length, j->z, j->input, j->input_length);
     case SEND:
-        return s->send(j->record, j->record_length, j->input, j->input_length, j->nl, j->qm, j->rv, j->g, output, j->room);
+        return s->send(j->record, j->record_length, j->input, j->input_length, j->nl, j->qm, j->rv, j->edition, j->g, output,
+                       j->room);
     case RECEIVE:
-        return s->receive(j->record, j->record_length, j->a, j->nl, j->qm, j->rv, j->input, j->input_length, output, j->room);
+        return s->receive(j->record, j->record_length, j->a, j->nl, j->qm, j->rv, j->edition, j->input, j->input_length, output,
+                          j->room);
     default: return run_hosted(s, j);
     }
 }

@@ -9,25 +9,29 @@ typedef const uint8_t *in;
 
 /* A slice is its start and its length. */
 typedef uint32_t crc_call(size_t width, in octets, size_t count);
+typedef uint32_t block_crc_call(in bits, size_t count);
 typedef uint32_t judge_call(in record, size_t length);
-typedef size_t plan_call(in record, size_t length, size_t octets);
+typedef size_t plan_call(in record, size_t length, size_t edition, size_t octets);
 typedef uint32_t match_call(in coded, size_t count, size_t type, size_t rv, size_t e, u8 *out, size_t room);
 typedef uint32_t code_call(in record, size_t length, size_t z, in places, size_t count, u8 *out, size_t room);
 typedef uint32_t check_call(in record, size_t length, size_t z, in word, size_t count);
-typedef uint32_t send_call(in record, size_t length, in block, size_t octets, size_t nl, size_t qm, size_t rv, size_t g, u8 *out,
-                           size_t room);
-typedef uint32_t receive_call(in record, size_t length, size_t a, size_t nl, size_t qm, size_t rv, in bits, size_t g, u8 *out,
-                              size_t room);
+typedef uint32_t send_call(in record, size_t length, in block, size_t octets, size_t nl, size_t qm, size_t rv, size_t edition,
+                           size_t g, u8 *out, size_t room);
+typedef uint32_t receive_call(in record, size_t length, size_t a, size_t nl, size_t qm, size_t rv, size_t edition, in bits,
+                              size_t g, u8 *out, size_t room);
 typedef size_t lookup_call(in private, size_t own, in public, size_t others, uint16_t tenant, uint16_t profile);
 typedef uint32_t hosted_send_call(in private, size_t own, in public, size_t others, uint16_t tenant, uint16_t profile,
-                                  in block, size_t octets, size_t nl, size_t qm, size_t rv, size_t g, u8 *out, size_t room);
+                                  in block, size_t octets, size_t nl, size_t qm, size_t rv, size_t edition, size_t g, u8 *out,
+                                  size_t room);
 typedef uint32_t hosted_receive_call(in private, size_t own, in public, size_t others, uint16_t tenant, uint16_t profile,
-                                     size_t a, size_t nl, size_t qm, size_t rv, in bits, size_t g, u8 *out, size_t room);
+                                     size_t a, size_t nl, size_t qm, size_t rv, size_t edition, in bits, size_t g, u8 *out,
+                                     size_t room);
 
 /* The product or a baseline. A call that it has no shape of its own for is null. */
 struct side {
     const char *name;
     crc_call *crc, *crc_of_bits;
+    block_crc_call *crc_of_block;
     judge_call *judge;
     plan_call *plan;
     match_call *match;
@@ -48,7 +52,7 @@ extern const struct side sides[SIDES];
 enum { BY_PLAIN, BY_QUICK, CHECKERS };
 extern const struct side checkers[CHECKERS];
 
-enum kind { CRC, CRC_OF_BITS, JUDGE, PLAN, MATCH, CODE, CHECK, SEND, RECEIVE, LOOKUP, HOSTED_SEND, HOSTED_RECEIVE };
+enum kind { CRC, CRC_OF_BITS, CRC_OF_BLOCK, JUDGE, PLAN, MATCH, CODE, CHECK, SEND, RECEIVE, LOOKUP, HOSTED_SEND, HOSTED_RECEIVE };
 
 /* Inputs of a job that take turns where it is timed: a branch predictor learns one block by heart, and no user sends one block only. */
 enum { VARIANTS = 8 };
@@ -62,7 +66,7 @@ struct job {
     size_t private_length, public_length;
     uint16_t tenant, profile;
     size_t z; /* of a checksum: its width; of a plan: the octets; of a matching: the type */
-    size_t nl, qm, rv, g, a;
+    size_t nl, qm, rv, edition, g, a;
     u8 *input; /* the first of the inputs */
     u8 *inputs[VARIANTS];
     size_t input_length;

@@ -15,6 +15,7 @@ static struct job *add(enum kind kind, const char *name) {
     job->kind = kind;
     job->nl = 1;
     job->qm = 2;
+    job->edition = 1;
     job->room = 66000;
     return job;
 }
@@ -106,28 +107,35 @@ static void add_record(size_t number) {
 }
 
 /* Sending a block, and receiving what was sent. */
-static void add_version(const char *what, struct record record, size_t octets, size_t g, size_t rv) {
+static void add_sent(const char *what, struct record record, size_t octets, size_t g, size_t rv, size_t edition) {
     char name[48];
     snprintf(name, sizeof name, "send %s", what);
     struct job *send = add_with_record(SEND, name, record);
     send->g = g;
     send->rv = rv;
+    send->edition = edition;
     give_input(send, octets, 255);
     snprintf(name, sizeof name, "receive %s", what);
     struct job *receive = add_with_record(RECEIVE, name, record);
     receive->a = 8 * octets;
     receive->rv = rv;
+    receive->edition = edition;
     give_output_of(receive, *send, g);
 }
 
 static void add_transfer(const char *what, struct record record, size_t octets, size_t g) {
-    add_version(what, record, octets, g, 0);
+    add_sent(what, record, octets, g, 0, 1);
+}
+
+/* From where a version starts, into just the room that it needs. */
+static void add_version(const char *what, struct record record, size_t octets, size_t rv) {
+    add_sent(what, record, octets, least_g(record, 1, octets), rv, 1);
 }
 
 /* Into just the room that it needs, three times that, and the most there is. */
 static void add_transfers(size_t number, size_t octets) {
     struct record record = record_of(number);
-    size_t least = least_g(record, octets);
+    size_t least = least_g(record, 1, octets);
     char what[48];
     snprintf(what, sizeof what, "%zu %zu exact", number, octets);
     add_transfer(what, record, octets, least);
@@ -142,7 +150,7 @@ static void add_widest(void) {
     struct record record = widest();
     add_with_record(JUDGE, "judge wide", record);
     add_coding("code wide z81", "check wide z81", record, 81);
-    add_transfer("wide 2048 exact", record, 2048, least_g(record, 2048));
+    add_transfer("wide 2048 exact", record, 2048, least_g(record, 1, 2048));
 }
 
 static struct job *add_hosted(enum kind kind, const char *name, size_t entries, uint16_t tenant, uint16_t profile) {
@@ -159,7 +167,7 @@ static void add_hosted_transfer(size_t octets) {
     char name[48];
     snprintf(name, sizeof name, "hosted send 34 %zu exact", octets);
     struct job *send = add_hosted(HOSTED_SEND, name, 64, 9, 64);
-    send->g = least_g(record_of(34), octets);
+    send->g = least_g(record_of(34), 1, octets);
     give_input(send, octets, 255);
     snprintf(name, sizeof name, "hosted receive 34 %zu exact", octets);
     struct job *receive = add_hosted(HOSTED_RECEIVE, name, 64, 9, 64);
@@ -171,7 +179,7 @@ static void add_hosted_transfer(size_t octets) {
 static void add_growing(void) {
     struct record record = record_of(56);
     for (size_t octets = 128; octets <= 2048; octets *= 2)
-        add_transfer(named("grow octets", octets), record, octets, least_g(record, octets));
+        add_transfer(named("grow octets", octets), record, octets, least_g(record, 1, octets));
     for (size_t g = 4096; g <= 65536; g *= 2)
         add_transfer(named("grow G", g), record, 56, g);
     for (size_t entries = 4; entries <= 64; entries *= 2)
@@ -192,9 +200,24 @@ static void add_type_2(void) {
     add_matching("match 4860 4740 rv2", 4860, 4740, 2, 2);
     add_with_record(JUDGE, "judge trial", record);
     add_coding("code trial z81", "check trial z81", record, 81);
-    add_version("trial 2048 exact rv0", record, 2048, least_g(record, 2048), 0);
-    add_version("trial 2048 exact rv2", record, 2048, least_g(record, 2048), 2);
-    add_version("type2 56 exact rv3", short_one, 56, least_g(short_one, 56), 3);
+    add_version("trial 2048 exact rv0", record, 2048, 0);
+    add_version("trial 2048 exact rv2", record, 2048, 2);
+    add_version("type2 56 exact rv3", short_one, 56, 3);
+}
+
+/* The checksum of a code block's own bits, as many as the blocks of 2,048 octets with profile 56 have. */
+static void add_block_checksum(void) {
+    struct job *job = add(CRC_OF_BLOCK, "crc24b 1492 bits");
+    give_input(job, 1492, 1);
+}
+
+/* Edition 2, where the blocks have a checksum each: eleven blocks, as many as in edition 1; and the shortest of two blocks, in both editions. */
+static void add_edition_2(void) {
+    struct record record = record_of(56);
+    add_block_checksum();
+    add_sent("56 2048 exact ed2", record, 2048, least_g(record, 2, 2048), 0, 2);
+    add_transfer("56 200 exact", record, 200, least_g(record, 1, 200));
+    add_sent("56 200 exact ed2", record, 200, least_g(record, 2, 200), 0, 2);
 }
 
 static void ask_both(const char *name) {
@@ -229,7 +252,7 @@ void make_jobs(const char *shelves) {
     add_transfers(34, 2048);
     add_transfers(56, 56);
     /* As many code blocks as may be, of two bits each; then blocks as wide as may be. */
-    add_transfer("toy 13 exact", toy(), 13, least_g(toy(), 13));
+    add_transfer("toy 13 exact", toy(), 13, least_g(toy(), 1, 13));
     add_widest();
     add_hosted(LOOKUP, "lookup 64+64 last public", 64, 9, 64);
     add_hosted(LOOKUP, "lookup 64+64 last private", 64, 64, 7);
@@ -239,5 +262,6 @@ void make_jobs(const char *shelves) {
     /* At the end, so that the jobs before have the inputs that they had. */
     add_shorter_checksums();
     add_type_2();
+    add_edition_2();
     ask_both_checkers();
 }

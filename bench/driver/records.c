@@ -142,17 +142,26 @@ u8 *filled(int is_private, size_t entries, struct record record, size_t *length)
     return octets;
 }
 
+struct cut cut_of(struct record record, size_t edition, size_t octets) {
+    in sizes = record.octets + HEAD;
+    size_t kb = number_at(record.octets, 0), most = kb * number_at(sizes, 4 * (number_at(record.octets, 8) - 1));
+    size_t bits = 8 * octets + 24, index = 0;
+    struct cut cut = { .sums = edition == 2 && bits > most && most > 24 ? 24 : 0 };
+    cut.blocks = (bits + most - cut.sums - 1) / (most - cut.sums);
+    cut.own = bits / cut.blocks;
+    cut.longer = bits % cut.blocks;
+    while (cut.own + (cut.longer > 0) + cut.sums > kb * number_at(sizes, 4 * index))
+        index++;
+    cut.z = number_at(sizes, 4 * index);
+    return cut;
+}
+
 /* Of two bits each. */
 static size_t symbol_places(size_t bits) { return (bits + 1) / 2; }
 
 /* The blocks that carry a bit more than the others are the first, and so are those that are given a symbol place more. */
-size_t least_g(struct record record, size_t octets) {
-    in sizes = record.octets + HEAD;
-    size_t kb = number_at(record.octets, 0), rows = number_at(record.octets, 2) + number_at(record.octets, 4);
-    size_t bits = 8 * octets + 24, most = kb * number_at(sizes, 4 * (number_at(record.octets, 8) - 1));
-    size_t blocks = (bits + most - 1) / most, own = bits / blocks, longer = bits % blocks, index = 0;
-    while (own + (longer > 0) > kb * number_at(sizes, 4 * index))
-        index++;
-    size_t coded = own + rows * number_at(sizes, 4 * index);
-    return 2 * (longer * symbol_places(coded + 1) + (blocks - longer) * symbol_places(coded));
+size_t least_g(struct record record, size_t edition, size_t octets) {
+    struct cut cut = cut_of(record, edition, octets);
+    size_t rows = number_at(record.octets, 2) + number_at(record.octets, 4), coded = cut.own + cut.sums + rows * cut.z;
+    return 2 * (cut.longer * symbol_places(coded + 1) + (cut.blocks - cut.longer) * symbol_places(coded));
 }

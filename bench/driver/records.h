@@ -31,6 +31,14 @@ u8 *filled(int is_private, size_t entries, struct record record, size_t *length)
 
 size_t number_at(in octets, size_t at);
 
+/* How a block of so many octets is cut: the first `longer` blocks have one own bit more. `sums` are the bits of each block's checksum. */
+struct cut {
+    size_t blocks, own, longer, sums, z;
+};
+
+/* Where a checksum would fill a block there is no cut, and the one without checksums is given. */
+struct cut cut_of(struct record record, size_t edition, size_t octets);
+
 /* The least G with N_L 1 and Q_m 2 that has room for a block of so many octets. */
-size_t least_g(struct record record, size_t octets);
+size_t least_g(struct record record, size_t edition, size_t octets);
 #endif

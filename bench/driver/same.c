@@ -111,7 +111,13 @@ static void spoil_version(struct job *job) {
         job->z = drawn() % 4;
 }
 
-static int answers_number(enum kind kind) { return kind != CRC && kind != CRC_OF_BITS && kind != PLAN && kind != LOOKUP; }
+/* Another edition, or none. */
+static void spoil_edition(struct job *job) {
+    if (drawn() % 4 == 0)
+        job->edition = drawn() % 4;
+}
+
+static int answers_number(enum kind kind) { return kind > CRC_OF_BLOCK && kind != PLAN && kind != LOOKUP; }
 
 /* Whether the sides agree on a broken copy; its number is counted. */
 static int same_broken(const struct job *whole, long seen[NUMBERS]) {
@@ -125,6 +131,7 @@ static int same_broken(const struct job *whole, long seen[NUMBERS]) {
     spoil_tenant(&job);
     spoil_number(&job);
     spoil_version(&job);
+    spoil_edition(&job);
     job.record = record, job.input = input, job.private = private, job.public = public;
     int is_same = same(&job);
     uint64_t answer = run(&sides[PRODUCT], &job);

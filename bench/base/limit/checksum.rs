@@ -1,7 +1,7 @@
 //! Checksums of eight octets at a time, from eight tables.
 
-use super::bits::pack;
-use crate::plain::checksum::{bits_from, table, G16, G24, G8};
+use super::bits::{bits_at, pack};
+use crate::plain::checksum::{bits_from, table, G16, G24, G24B, G8};
 use crate::plain::octets::some_over;
 
 type Tables = [[u32; 256]; 8];
@@ -31,6 +31,7 @@ const fn moved(last: &[u32; 256], first: &[u32; 256]) -> [u32; 256] {
 static TABLES24: Tables = tables(G24);
 static TABLES16: Tables = tables(G16);
 static TABLES8: Tables = tables(G8);
+static TABLES24B: Tables = tables(G24B);
 
 fn folded(tables: &Tables, octets: &[u8]) -> u32 {
     let mut eights = octets.chunks_exact(8);
@@ -65,6 +66,28 @@ pub fn of_bits(width: usize, bits: &[u8]) -> u32 {
         8 => bits_folded(&TABLES8, G8, bits) >> 24,
         _ => 0,
     }
+}
+
+/// The checksum of a code block, of single bits. 0 where one is over 1.
+pub fn of_block_bits(bits: &[u8]) -> u32 {
+    if some_over(1, bits) {
+        0
+    } else {
+        bits_folded(&TABLES24B, G24B, bits) >> 8
+    }
+}
+
+/// The same of so many packed bits, from bit `start` on. Zeros in front change no checksum, so the bits that are left
+/// over where it goes by 64 are taken first, behind zeros.
+pub fn of_packed_block(octets: &[u8], start: usize, count: usize) -> u32 {
+    let over = count % 64;
+    let first = bits_at(octets, start, over).wrapping_shr(128 - over as u32) as u64;
+    let mut register = of_eight(&TABLES24B, 0, &first.to_be_bytes());
+    for at in (start + over..start + count).step_by(64) {
+        let word = (bits_at(octets, at, 64) >> 64) as u64;
+        register = of_eight(&TABLES24B, register, &word.to_be_bytes());
+    }
+    register >> 8
 }
 
 fn bits_folded(tables: &Tables, generator: u32, bits: &[u8]) -> u32 {

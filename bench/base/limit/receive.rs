@@ -1,7 +1,7 @@
 //! Receiving with each block packed once; repetitions are compared by memcmp.
 
 use super::bits::{bits_at, own_group, pack};
-use super::checksum::by_eight_octets;
+use super::checksum::{by_eight_octets, of_packed_block};
 use super::parity::PACKED;
 use super::send::kept;
 use crate::plain::parity::{Matrix, ROWS, WORD};
@@ -32,15 +32,18 @@ fn take_all(profile: &Profile, plan: &Plan, terms: Terms, bits: &[u8], own: &mut
     let mut start = 0;
     let mut rest = bits;
     for r in 0..plan.blocks {
-        let count = plan.own(r);
+        let (count, carried) = (plan.own(r), plan.carried(r));
         let (sent, after) = rest.split_at(shares.of(r));
         rest = after;
-        let (once, again) = sent.split_at(count + matrix.rows * matrix.z);
+        let (once, again) = sent.split_at(carried + matrix.rows * matrix.z);
         if again != &sent[..again.len()] {
             return Err(14);
         }
-        take(once, kept(count, plan.places, from), &mut packed, &mut own[start..start + count]);
-        if !matrix.all_even(|j| group(matrix, &packed, count, j), &mut room) {
+        take(once, kept(carried, plan.places, from), &mut packed, &mut own[start..start + count]);
+        if !matrix.all_even(|j| group(matrix, &packed, carried, j), &mut room) {
+            return Err(14);
+        }
+        if carried > count && of_packed_block(&packed, 0, carried) != 0 {
             return Err(14);
         }
         start += count;
@@ -68,11 +71,11 @@ fn take_turned(once: &[u8], turned: usize, packed: &mut [u8], own: &mut [u8]) {
 }
 
 /// Group j of a block whose filler was left out.
-fn group(matrix: Matrix, packed: &[u8], own: usize, j: usize) -> u128 {
+fn group(matrix: Matrix, packed: &[u8], carried: usize, j: usize) -> u128 {
     let Matrix { kb, z, .. } = matrix;
     if j >= kb {
-        bits_at(packed, own + (j - kb) * z, z)
+        bits_at(packed, carried + (j - kb) * z, z)
     } else {
-        own_group(packed, 0, own, j * z, z)
+        own_group(packed, 0, carried, j * z, z)
     }
 }

@@ -1,7 +1,7 @@
 //! Sending from packed octets: a block's bits are spread once, its parity is put behind them, and runs are copied.
 
-use super::bits::{own_group, put, spread_octet};
-use super::checksum::by_eight_octets;
+use super::bits::{bits_at, own_group, put, spread_octet};
+use super::checksum::{by_eight_octets, of_packed_block};
 use super::parity::Groups;
 use crate::plain::parity::{Matrix, ROWS, WORD};
 use crate::plain::send::planned;
@@ -17,9 +17,13 @@ pub fn send(record: &[u8], block: &[u8], terms: Terms, out: &mut [u8]) -> Result
     let mut start = 0;
     let mut at = 0;
     for r in 0..plan.blocks {
-        let (own, share) = (plan.own(r), shares.of(r));
-        lay(matrix, &carried, start, own, &mut room, &mut sent);
-        let (last, first) = sent[..own + matrix.rows * plan.z].split_at(kept(own, plan.places, from));
+        let (own, count, share) = (plan.own(r), plan.carried(r), shares.of(r));
+        if count > own {
+            lay(matrix, &with_sum(&carried, start, own), 0, count, &mut room, &mut sent);
+        } else {
+            lay(matrix, &carried, start, own, &mut room, &mut sent);
+        }
+        let (last, first) = sent[..count + matrix.rows * plan.z].split_at(kept(count, plan.places, from));
         put_round(first, last, &mut out[at..at + share]);
         start += own;
         at += share;
@@ -48,6 +52,23 @@ fn carry(block: &[u8], octets: &mut [u8]) {
     let (body, rest) = octets.split_at_mut(block.len());
     body.copy_from_slice(block);
     rest[..3].copy_from_slice(&by_eight_octets(24, block).to_be_bytes()[1..]);
+}
+
+/// The octets of the widest block's places, with room behind them to read words from.
+const PLACES: usize = 203 + 32;
+
+/// One block's own bits from the first octet on, and their checksum behind them.
+fn with_sum(carried: &[u8], start: usize, own: usize) -> [u8; PLACES] {
+    let mut octets = [0; PLACES];
+    for (eight, at) in octets.chunks_exact_mut(8).zip((0..own).step_by(64)) {
+        let word = (bits_at(carried, start + at, 64.min(own - at)) >> 64) as u64;
+        eight.copy_from_slice(&word.to_be_bytes());
+    }
+    let sum = (of_packed_block(carried, start, own) << 8) >> (own % 8);
+    for (octet, more) in octets[own / 8..].iter_mut().zip(sum.to_be_bytes()) {
+        *octet |= more;
+    }
+    octets
 }
 
 /// The unmarked places of one coded block.

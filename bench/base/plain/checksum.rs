@@ -34,10 +34,12 @@ pub const fn step(register: u32, generator: u32) -> u32 {
 pub const G24: u32 = 0x864C_FB00;
 pub const G16: u32 = 0x1021_0000;
 pub const G8: u32 = 0x9B00_0000;
+pub const G24B: u32 = 0x8000_6300;
 
 static TABLE24: [u32; 256] = table(G24);
 static TABLE16: [u32; 256] = table(G16);
 static TABLE8: [u32; 256] = table(G8);
+static TABLE24B: [u32; 256] = table(G24B);
 
 fn folded(table: &[u32; 256], octets: &[u8]) -> u32 {
     let next = |register: u32, &octet: &u8| (register << 8) ^ table[(register >> 24) as usize ^ octet as usize];
@@ -61,6 +63,21 @@ pub fn of_bits(width: usize, bits: &[u8]) -> u32 {
         16 => bits_folded(&TABLE16, G16, bits) >> 16,
         8 => bits_folded(&TABLE8, G8, bits) >> 24,
         _ => 0,
+    }
+}
+
+/// The checksum of a code block, of bits that are none over 1. They stand one to an octet, and packing eight of them for
+/// a table takes less than a third of the time of going bit by bit; at most seven are left over.
+pub fn of_block(bits: &[u8]) -> u32 {
+    bits_folded(&TABLE24B, G24B, bits) >> 8
+}
+
+/// The same of any octets. 0 where one is over 1.
+pub fn of_block_bits(bits: &[u8]) -> u32 {
+    if some_over(1, bits) {
+        0
+    } else {
+        of_block(bits)
     }
 }
 

@@ -1,6 +1,6 @@
-//! Receiving: every repetition, every parity bit and the checksum are tested.
+//! Receiving: every repetition, every parity bit and every checksum are tested.
 
-use super::checksum::by_octets;
+use super::checksum::{by_octets, of_block};
 use super::judge::judge;
 use super::octets::{pack, some_over};
 use super::parity::{Matrix, SUMS, WORD};
@@ -18,7 +18,7 @@ pub fn receive(record: &[u8], a: usize, terms: Terms, bits: &[u8], out: &mut [u8
     attached(&block[..octets + 3], out)
 }
 
-/// The plan and the octets, or the first of 5 to 13 and 16.
+/// The plan and the octets, or the first of 5 to 13, 16 and 19.
 #[inline(always)]
 pub fn planned<'a>(
     record: &'a [u8],
@@ -39,7 +39,7 @@ pub fn planned<'a>(
     }
     // Shares never rise, so the last block that carries the most bits is the first to be short, or the last of all is.
     let shares = plan.shares(terms);
-    let short = |r: usize| shares.of(r) < plan.own(r) + profile.rows * plan.z;
+    let short = |r: usize| shares.of(r) < plan.carried(r) + profile.rows * plan.z;
     if short((plan.bits - 1) % plan.blocks) || short(plan.blocks - 1) {
         return Err(13);
     }
@@ -55,14 +55,14 @@ fn take_all(profile: &Profile, plan: &Plan, terms: Terms, bits: &[u8], own: &mut
     let mut start = 0;
     let mut rest = bits;
     for r in 0..plan.blocks {
-        let count = plan.own(r);
+        let (count, carried) = (plan.own(r), plan.carried(r));
         let (sent, after) = rest.split_at(shares.of(r));
         rest = after;
-        if !repeats(sent, count + word.len() - plan.places) {
+        if !repeats(sent, carried + word.len() - plan.places) {
             return Err(14);
         }
-        lay(sent, count, plan.places, from, word);
-        if !matrix.checks(word, &mut sums) {
+        lay(sent, carried, plan.places, from, word);
+        if !matrix.checks(word, &mut sums) || carried > count && !summed(&word[..carried]) {
             return Err(14);
         }
         own[start..start + count].copy_from_slice(&word[..count]);
@@ -71,20 +71,25 @@ fn take_all(profile: &Profile, plan: &Plan, terms: Terms, bits: &[u8], own: &mut
     Ok(())
 }
 
+/// Whether a block's bits end in the checksum of those before it: then, and only then, the sum over all of them is 0.
+fn summed(carried: &[u8]) -> bool {
+    of_block(carried) == 0
+}
+
 fn repeats(sent: &[u8], period: usize) -> bool {
     sent[period..] == sent[..sent.len() - period]
 }
 
 /// The word that was sent from this place on, with its filler again.
-fn lay(sent: &[u8], own: usize, places: usize, from: usize, word: &mut [u8]) {
-    let (low, high) = (own.min(from), places.max(from));
+fn lay(sent: &[u8], carried: usize, places: usize, from: usize, word: &mut [u8]) {
+    let (low, high) = (carried.min(from), places.max(from));
     let mut rest = sent;
-    for run in [low..own, high..word.len(), 0..low, places..high] {
+    for run in [low..carried, high..word.len(), 0..low, places..high] {
         let (first, after) = rest.split_at(run.len());
         word[run].copy_from_slice(first);
         rest = after;
     }
-    word[own..places].fill(2);
+    word[carried..places].fill(2);
 }
 
 /// Writes the block where its checksum is the attached one.

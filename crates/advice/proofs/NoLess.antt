@@ -34,15 +34,16 @@ use Rattle.advice.proofs.Numbers.{least-first, least-last, right}
 
 -- ---- what the number says
 
-not-thirteen : (a b c v d e : Bool) → answered ((5, a) ∷ (6, b) ∷ (7, c) ∷ (16, v) ∷ (8, d) ∷ (9, e) ∷ []) ≡ 13 → ⊥
+not-thirteen : (a b o c v d e : Bool) → answered ((5, a) ∷ (6, b) ∷ (19, o) ∷ (7, c) ∷ (16, v) ∷ (8, d) ∷ (9, e) ∷ []) ≡ 13 → ⊥
 unfolding answered
-not-thirteen true b c v d e q = omega arith
-not-thirteen false true c v d e q = omega arith
-not-thirteen false false true v d e q = omega arith
-not-thirteen false false false true d e q = omega arith
-not-thirteen false false false false true e q = omega arith
-not-thirteen false false false false false true q = omega arith
-not-thirteen false false false false false false q = omega arith
+not-thirteen true b o c v d e q = omega arith
+not-thirteen false true o c v d e q = omega arith
+not-thirteen false false true c v d e q = omega arith
+not-thirteen false false false true v d e q = omega arith
+not-thirteen false false false false true d e q = omega arith
+not-thirteen false false false false false true e q = omega arith
+not-thirteen false false false false false false true q = omega arith
+not-thirteen false false false false false false false q = omega arith
 
 thirteen-is : (b : Bool) → answered ((13, not b) ∷ []) ≡ 13 → b ≡ false
 unfolding answered
@@ -76,7 +77,7 @@ module _ (R : List ℕ) (octets : ℕ) (terms : Terms) where
   least-thirteen e =
       equal-or (cutNumber R octets terms 0) 0
       (λ z. (z, thirteen-is (someRoom R octets terms) (sym (least-last R octets terms z) ∙ e)))
-      (λ n. absurd (not-thirteen _ _ _ _ _ _ (sym (least-first R octets terms n) ∙ e)))
+      (λ n. absurd (not-thirteen _ _ _ _ _ _ _ (sym (least-first R octets terms n) ∙ e)))
 
   -- ---- the G that 8 does not refuse are the allocations
 
@@ -140,7 +141,7 @@ module _ (R : List ℕ) (octets : ℕ) (terms : Terms) where
   pub larger-fewer : (r : Least) → LeastRoom R octets terms r → r .larger ≤ r .blocks
   unfolding spare
   larger-fewer r h =
-      let c = blocks R (blockBits octets) in
+      let c = blocks R (terms .edition) (blockBits octets) in
       let n = leastNumber R octets terms in
       equal-or n 0
       (λ e.
@@ -152,7 +153,7 @@ module _ (R : List ℕ) (octets : ℕ) (terms : Terms) where
   pub told-shares : (r : Least) → LeastRoom R octets terms r → r .number ≡ 0 → (k : ℕ)
       → (k < r .larger → share terms (r .bits .0) (r .blocks) k .0 ≡ r .first .0) × (r .larger ≤ k → share terms (r .bits .0) (r .blocks) k .0 ≡ r .last .0)
   told-shares r h done k =
-      let c = blocks R (blockBits octets) in
+      let c = blocks R (terms .edition) (blockBits octets) in
       let g = leastBits R octets terms in
       let n = leastNumber R octets terms in
       let e : n ≡ 0 = sym (h .number) ∙ done in
@@ -186,10 +187,10 @@ module _ (R : List ℕ) (octets : ℕ) (terms : Terms) where
     from-ten =
         let back : 8 * octets / 8 ≡ octets = mul-div-cancel-left octets (lit< tt) in
         let whole : 8 * octets % 8 ≡ 0 = mul-mod-right 8 octets in
-        let tests = plan-passed R octets (cut-passed R octets terms 0 e .0) in
+        let tests = plan-passed R (terms .edition) octets (cut-passed R octets terms 0 e .0) in
         let seven : not (eqb (8 * octets % 8) 0 && within 1 2048 octets) ≡ false =
         rw (eq-eqb (8 * octets % 8) 0 whole, le-leb 1 octets (tests .1), le-leb octets 2048 (tests .2)) in
-        rw back (judged-passed R _ (tests .0) ∙ passes 7 _ seven ∙ passes 16 _ (cut-passed R octets terms 0 e .2) ∙ passes 8 _ allowed ∙ passes 9 _ (le-ltb 64 (blocks R (blockBits octets)) (tests .3)))
+        rw back (judged-passed R _ (tests .0) ∙ passes 19 _ (tests .4) ∙ passes 7 _ seven ∙ passes 16 _ (cut-passed R octets terms 0 e .2) ∙ passes 8 _ allowed ∙ passes 9 _ (tests .3))
 
     without-room : octets ≤ room → someOver 1 bits ≡ false → TenOrThirteen (length bits)
         → (receiveNumber R (8 * octets) terms bits room ≡ 10) ⊎ (receiveNumber R (8 * octets) terms bits room ≡ 13)

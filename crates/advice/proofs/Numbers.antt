@@ -46,34 +46,34 @@ module _ (R : List ℕ) (octets : ℕ) (terms : Terms) where
   first-refused n found h = told-refused n (found ∙ sym (least-first (λ z. h (found ∙ z)))) h
 
   module _ (e : cutNumber R octets terms 0 ≡ 0) where
-    pub cut : Cut R (blockBits octets)
-    cut = plan-cut R octets (cut-passed R octets terms 0 e .0)
+    pub cut : Cut R (terms .edition) (blockBits octets)
+    cut = plan-cut R (terms .edition) octets (cut-passed R octets terms 0 e .0)
 
-    pub right : Allocated terms 0 (blocks R (blockBits octets))
-    right = allocated terms 0 (blocks R (blockBits octets)) (cut-passed R octets terms 0 e .1) (cut .some)
+    pub right : Allocated terms 0 (blocks R (terms .edition) (blockBits octets))
+    right = allocated terms 0 (blocks R (terms .edition) (blockBits octets)) (cut-passed R octets terms 0 e .1) (cut .some)
 
     abbrev all : ℕ
     all = placesForAll R (blockBits octets) terms
 
     pub last-refused : 65536 / placeBits terms < all → (r : Least) → r ≡ refusal 13 → LeastRoom R octets terms r
     last-refused h =
-        told-refused 13 (sym (least-last e ∙ applies 13 [] (ap not (no-room R octets cut terms (right .usable .some) h)))) (λ q. omega arith)
+        told-refused 13 (sym (least-last e ∙ applies 13 [] (ap not (no-room R octets terms cut (right .usable .some) h)))) (λ q. omega arith)
 
-    pub last-done : all ≤ 65536 / placeBits terms → (r : Least) → r .number ≡ 0 → r .bits .0 ≡ placeBits terms * all → r .blocks ≡ blocks R (blockBits octets)
-        → r .larger ≡ all % blocks R (blockBits octets)
+    pub last-done : all ≤ 65536 / placeBits terms → (r : Least) → r .number ≡ 0 → r .bits .0 ≡ placeBits terms * all → r .blocks ≡ blocks R (terms .edition) (blockBits octets)
+        → r .larger ≡ all % blocks R (terms .edition) (blockBits octets)
         → r .first ≡ share terms (r .bits .0) (r .blocks) 0 → r .last ≡ share terms (r .bits .0) (r .blocks) (r .blocks - 1) → LeastRoom R octets terms r
     last-done h r number bits count more first last =
         let some = right .usable .some in
-        let n : leastNumber R octets terms ≡ 0 = least-last e ∙ passes 13 [] (ap not (some-room R octets cut terms some h)) ∙ none-left in
+        let n : leastNumber R octets terms ≡ 0 = least-last e ∙ passes 13 [] (ap not (some-room R octets terms cut some h)) ∙ none-left in
         let done : (v : ℕ) → v ≡ whenDone (leastNumber R octets terms) v 0 = λ v. sym (when-done (leastNumber R octets terms) v 0 n) in
-        let least = least-is R octets cut terms some h in
-        let c = blocks R (blockBits octets) in
+        let least = least-is R octets terms cut some h in
+        let c = blocks R (terms .edition) (blockBits octets) in
         let all-bits : r .bits .0 ≡ leastBits R octets terms = bits ∙ sym least in
         record {
           number = number ∙ sym n;
           bits = all-bits ∙ done _;
           blocks = count ∙ done _;
-          larger = more ∙ sym (spare-is R octets cut terms some) ∙ ap (λ (g : ℕ). spare terms g c .0) (sym least) ∙ done _;
+          larger = more ∙ sym (spare-is R octets terms cut some) ∙ ap (λ (g : ℕ). spare terms g c .0) (sym least) ∙ done _;
           first = ap (λ (x : CodedBits). x .0) first ∙ ap₂ (λ (g n : ℕ). share terms g n 0 .0) all-bits count ∙ done _;
           last = ap (λ (x : CodedBits). x .0) last ∙ ap₂ (λ (g n : ℕ). share terms g n (n - 1) .0) all-bits count ∙ done _;
         }

@@ -15,7 +15,7 @@ use Rattle.bits.proofs.Rounding.{ceil-covers, ceil-least, ceil-some}
 use Rattle.bits.proofs.Sums.{sum-same, sum-le, sum-const}
 use Rattle.profile.specs.Record.{kb, z, rows}
 use Rattle.profile.proofs.Shape.{columns-is}
-use Rattle.cutting.specs.Plan.{blockBits, blocks, ownBits, sizeIndex, filler}
+use Rattle.cutting.specs.Plan.{blockBits, sumBits, blocks, ownBits, carriedBits, sizeIndex, filler}
 use Rattle.cutting.proofs.Plans.{Cut}
 use Rattle.cutting.proofs.Rounding.{below, own-parts, own-sum, parts-sum, parts-own}
 use Rattle.coding.specs.Blocks.{sendable}
@@ -51,19 +51,22 @@ parts-back c f p r =
     let all : sumBelow c f ≡ c * p .q + p .s = sum-same c f (λ i. p .q + below (p .s) i) (λ i l. p .is i) ∙ parts-sum c (p .q) (p .s) (omega (arith, p .some)) in
     rw all (parts-own c (p .q) (p .s) (p .some) r ∙ sym (p .is r))
 
-module _ (R : List ℕ) (octets : ℕ) (cut : Cut R (blockBits octets)) where
+module _ (R : List ℕ) (octets : ℕ) (terms : Terms) (cut : Cut R (terms .edition) (blockBits octets)) where
+  abbrev ed : ℕ
+  ed = terms .edition
+
   abbrev b : ℕ
   b = blockBits octets
 
   abbrev c : ℕ
-  c = blocks R b
+  c = blocks R ed b
 
-  -- a block's places past its own bits and its parity bits are its filler
-  sendable-is : (r : ℕ) → sendable R b r ≡ ownBits b c r + rows R * z R (sizeIndex R b)
-  unfolding sendable filler
-  sendable-is r = omega (arith, cut .product, ap (λ (n : ℕ). n * z R (sizeIndex R b)) (columns-is R), add-mul (kb R) (rows R) (z R (sizeIndex R b)), cut .own-most r, cut .room)
+  -- a block's places past what it carries and its parity bits are its filler
+  sendable-is : (r : ℕ) → sendable R ed b r ≡ ownBits b c r + sumBits R ed b + rows R * z R (sizeIndex R ed b)
+  unfolding sendable filler carriedBits
+  sendable-is r = omega (arith, cut .product, ap (λ (n : ℕ). n * z R (sizeIndex R ed b)) (columns-is R), add-mul (kb R) (rows R) (z R (sizeIndex R ed b)), cut .own-most r, cut .room)
 
-  module _ (terms : Terms) (some : 0 < placeBits terms) where
+  module _ (some : 0 < placeBits terms) where
     -- ---- what the blocks take: the first may take one symbol place more than the others
 
     abbrev each : ℕ → ℕ
@@ -74,20 +77,20 @@ module _ (R : List ℕ) (octets : ℕ) (cut : Cut R (blockBits octets)) where
 
     -- N of a block with the fewest own bits
     abbrev low : ℕ
-    low = b / c + rows R * z R (sizeIndex R b)
+    low = b / c + sumBits R ed b + rows R * z R (sizeIndex R ed b)
 
     first-each : (r : ℕ) → r < b % c → each r ≡ ceil (low + 1) (placeBits terms)
     unfolding placesFor
     first-each r l =
         let own : ownBits b c r ≡ b / c + 1 = own-parts b c (cut .some) r ∙ rw (lt-ltb r (b % c) l) in
-        let n : sendable R b r ≡ low + 1 = omega (arith, sendable-is r, own) in
+        let n : sendable R ed b r ≡ low + 1 = omega (arith, sendable-is r, own) in
         ap (λ (n : ℕ). ceil n (placeBits terms)) n
 
     other-each : (r : ℕ) → b % c ≤ r → each r ≡ ceil low (placeBits terms)
     unfolding placesFor
     other-each r l =
         let own : ownBits b c r ≡ b / c + 0 = own-parts b c (cut .some) r ∙ rw (le-ltb r (b % c) l) in
-        let n : sendable R b r ≡ low = omega (arith, sendable-is r, own) in
+        let n : sendable R ed b r ≡ low = omega (arith, sendable-is r, own) in
         ap (λ (n : ℕ). ceil n (placeBits terms)) n
 
     parts : Parts c (placesFor R b terms)
@@ -117,7 +120,7 @@ module _ (R : List ℕ) (octets : ℕ) (cut : Cut R (blockBits octets)) where
 
     each-some : (r : ℕ) → 1 ≤ each r
     unfolding placesFor
-    each-some r = ceil-some (sendable R b r) (placeBits terms) some (omega (arith, sendable-is r, cut .own-some r))
+    each-some r = ceil-some (sendable R ed b r) (placeBits terms) some (omega (arith, sendable-is r, cut .own-some r))
 
     all-some : c ≤ all
     unfolding placesForAll
@@ -133,7 +136,7 @@ module _ (R : List ℕ) (octets : ℕ) (cut : Cut R (blockBits octets)) where
     share-at k r = share-places terms (placeBits terms * k) c r ∙ ap (λ (n : ℕ). placeBits terms * ownBits n c r) (places-at k)
 
     abbrev lacks : ℕ → ℕ → Bool
-    lacks k r = ltb (share terms (placeBits terms * k) c r .0) (sendable R b r)
+    lacks k r = ltb (share terms (placeBits terms * k) c r .0) (sendable R ed b r)
 
     -- as many as they take: every block has room
     many : tooFewPlaces R octets terms (placeBits terms * all) ≡ false
@@ -144,7 +147,7 @@ module _ (R : List ℕ) (octets : ℕ) (cut : Cut R (blockBits octets)) where
     unfolding placesFor
     roomy r =
         rw (share-at all r, given-each r)
-        (le-ltb (placeBits terms * each r) (sendable R b r) (omega (arith, ceil-covers (sendable R b r) (placeBits terms) some, mul-comm (each r) (placeBits terms))))
+        (le-ltb (placeBits terms * each r) (sendable R ed b r) (omega (arith, ceil-covers (sendable R ed b r) (placeBits terms) some, mul-comm (each r) (placeBits terms))))
 
     pub room-at : roomAt R octets terms (placesForAll R b terms) ≡ true
     unfolding roomAt hasRoom someWithoutRoom
@@ -155,8 +158,8 @@ module _ (R : List ℕ) (octets : ℕ) (cut : Cut R (blockBits octets)) where
       taken : (r : ℕ) → lacks k r ≡ false → each r ≤ ownBits k c r
       unfolding placesFor
       taken r e =
-          ceil-least (sendable R b r) (placeBits terms) some (ownBits k c r)
-          (omega (arith, ltb-false (share terms (placeBits terms * k) c r .0) (sendable R b r) e, share-at k r, mul-comm (placeBits terms) (ownBits k c r)))
+          ceil-least (sendable R ed b r) (placeBits terms) some (ownBits k c r)
+          (omega (arith, ltb-false (share terms (placeBits terms * k) c r .0) (sendable R ed b r) e, share-at k r, mul-comm (placeBits terms) (ownBits k c r)))
 
       lacks-below : someWithoutRoom R octets terms (placeBits terms * k) ≡ true
       unfolding someWithoutRoom placesForAll

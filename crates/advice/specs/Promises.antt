@@ -12,7 +12,7 @@ use Rattle.coding.specs.Promises.{cutConditions}
 use Rattle.advice.specs.Least.{someRoom, leastBits}
 use Rattle.advice.specs.declared.Least.{Least}
 
--- 5 to 9 and 16 as sending answers them for G 0, so that 8 is about N_L and Q_m alone; 13 is here: where no G up to 65,536 has room
+-- 5 to 9, 16 and 19 as sending answers them for G 0, so that 8 is about N_L and Q_m alone; 13 is here: where no G up to 65,536 has room
 abbrev pub leastConditions : List ℕ → ℕ → Terms → List (ℕ × Bool)
 leastConditions R octets terms =
     cutConditions R (not (within 1 2048 octets)) octets terms 0 ++ (13, not (someRoom R octets terms)) ∷ []
@@ -24,8 +24,8 @@ pub record LeastRoom (R : List ℕ) (octets : ℕ) (terms : Terms) (r : Least) :
   pub number : r .number ≡ leastNumber R octets terms
   pub bits : r .bits .0 ≡ whenDone (leastNumber R octets terms) (leastBits R octets terms) 0
   -- γ, and the shares of the first block and of the last: the first γ blocks have the one, the others the other
-  pub larger : r .larger ≡ whenDone (leastNumber R octets terms) (spare terms (leastBits R octets terms) (blocks R (blockBits octets)) .0) 0
-  pub first : r .first .0 ≡ whenDone (leastNumber R octets terms) (share terms (leastBits R octets terms) (blocks R (blockBits octets)) 0 .0) 0
+  pub larger : r .larger ≡ whenDone (leastNumber R octets terms) (spare terms (leastBits R octets terms) (blocks R (terms .edition) (blockBits octets)) .0) 0
+  pub first : r .first .0 ≡ whenDone (leastNumber R octets terms) (share terms (leastBits R octets terms) (blocks R (terms .edition) (blockBits octets)) 0 .0) 0
   pub last : r .last .0
-      ≡ whenDone (leastNumber R octets terms) (share terms (leastBits R octets terms) (blocks R (blockBits octets)) (blocks R (blockBits octets) - 1) .0) 0
-  pub blocks : r .blocks ≡ whenDone (leastNumber R octets terms) (blocks R (blockBits octets)) 0
+      ≡ whenDone (leastNumber R octets terms) (share terms (leastBits R octets terms) (blocks R (terms .edition) (blockBits octets)) (blocks R (terms .edition) (blockBits octets) - 1) .0) 0
+  pub blocks : r .blocks ≡ whenDone (leastNumber R octets terms) (blocks R (terms .edition) (blockBits octets)) 0

@@ -10,7 +10,7 @@ use bits::number::NO_ROOM;
 use cutting::Plan;
 ghost use mathlib.Core.Path.{_≡_};
 ghost use Rattle.bits.specs.steps.Counting.{Usable};
-ghost use Rattle.cutting.specs.steps.Plans.{SomePlan};
+ghost use Rattle.cutting.specs.steps.Plans.{PlanOf};
 ghost use Rattle.coding.specs.steps.Numbers.{cutNumber};
 ghost use Rattle.advice.specs.Promises.{LeastRoom};
 ghost use Rattle.advice.specs.steps.Counting.{refusal, placesForAll};
@@ -46,7 +46,7 @@ fn refused(number: u32) -> Least
 
 // The symbol places that all blocks take together: each as many as its own N.
 fn places_for_all(profile: &[u8], plan: Plan, terms: Terms) -> SymbolPlaces
-    requires { ⌜ SomePlan (now profile) plan × Usable terms ⌝ }
+    requires { ⌜ PlanOf (now profile) (terms .edition) plan × Usable terms ⌝ }
     ensures { λ n. ⌜ n .0 ≡ placesForAll (now (profile .entry)) (plan .bits) terms ⌝ }
 {
     let c = plan.blocks;
@@ -67,7 +67,7 @@ fn least_cut(profile: &[u8], octets: usize, terms: Terms) -> Least
     requires { ⌜ cutNumber (now profile) octets terms 0 ≡ 0 ⌝ }
     ensures { λ r. ⌜ LeastRoom (now (profile .entry)) octets terms r ⌝ }
 {
-    let plan = cutting::inner::plan_accepted(profile, octets);
+    let plan = cutting::inner::plan_accepted(profile, terms.edition, octets);
     let all = places_for_all(profile, plan, terms);
     let most = symbol_places(CodedBits(65536), terms);
     if most.0 < all.0 {

@@ -29,13 +29,18 @@ module _ (places : ℕ) (mine : List ℕ) where
       ∙ getD-append-add mine (replicate (places - length mine) 2) (p - length mine) 0
       ∙ getD-replicate (places - length mine) (p - length mine) 2 0 (omega arith)
 
+-- what stands in front of a word, and marks behind it
+pub marked-filled : (mine b c : List ℕ) (places : ℕ) → ((p : ℕ) → p < length mine → getD b p 0 ≡ getD mine p 0) → Marked (length mine) places b c
+    → (p : ℕ) → p < places → getD c p 0 ≡ getD (withFiller places mine) p 0
+marked-filled mine b c places front marks p q =
+    below-or p (length mine) (λ o. marks .below p o ∙ front p o ∙ sym (filled-own places mine p o)) (λ o. marks .marked p o q ∙ sym (filled-mark places mine p o q))
+
 -- own bits laid from `start` on, and marks behind them
 pub laid-marked : (bits a b c : List ℕ) (start own places : ℕ) → own ≤ places → start + own ≤ length bits
     → Laid bits start own a 0 b → Marked own places b c → (p : ℕ) → p < places → getD c p 0 ≡ getD (withFiller places (take own (drop start bits))) p 0
-laid-marked bits a b c start own places h l laid marks p q =
+laid-marked bits a b c start own places h l laid marks =
     let mine = take own (drop start bits) in
     let size : length mine ≡ own = length-part own start bits l in
-    below-or p own
-    (λ o. marks .below p o ∙ ap (λ (i : ℕ). getD b i 0) (sym (zero-add p)) ∙ laid .inside p o ∙ sym (getD-drop start bits p 0)
-    ∙ sym (getD-take own (drop start bits) p 0 o) ∙ sym (filled-own places mine p (omega arith)))
-    (λ o. marks .marked p o q ∙ sym (filled-mark places mine p (omega arith) q))
+    marked-filled mine b c places
+    (λ p o. ap (λ (i : ℕ). getD b i 0) (sym (zero-add p)) ∙ laid .inside p (omega arith) ∙ sym (getD-drop start bits p 0) ∙ sym (getD-take own (drop start bits) p 0 (omega arith)))
+    (rw size marks)

@@ -1,12 +1,12 @@
 -- One block as it is received: what it was sent as decides its coded word, and the coded word decides what it is sent as.
 use mathlib.Core.Path.{_≡_, sym, ap, ap₂, _∙_, subst}
-use mathlib.Core.Bool.{Bool, true, _&&_}
+use mathlib.Core.Bool.{Bool, true, false, _&&_, true≢false}
 use mathlib.Core.List.{List, _++_, append-assoc}
 use Prim.Native.Nat.{ℕ, _+_, _-_, _*_, _%_, _≤_, _<_}
 use native.Mathlib.Nat.{add-mul, mod-eq-of-lt}
 use native.Mathlib.Omega.{arith}
 use lib.ListN.{length, getD, take, drop, length-append, length-drop, take-append-drop}
-use lib.Seq.{ext-getD, getD-append-add, getD-drop, getD-take, length-take-le, take-at}
+use lib.Seq.{ext-getD, getD-append-add, getD-drop, getD-take, length-take-le, take-at, take-take}
 use Rattle.bits.specs.Bits.{AreBits, same, withFiller}
 use Rattle.bits.proofs.Lists.{bits-take, bits-drop, same-equal, same-self, length-part}
 use Rattle.bits.proofs.Ranges.{both, either-way}
@@ -15,7 +15,7 @@ use Rattle.bits.proofs.Filler.{length-filled}
 use Rattle.profile.specs.Record.{kb, m, rows, columns, table}
 use Rattle.profile.proofs.Shape.{columns-is}
 use Rattle.cutting.specs.declared.Plan.{Plan}
-use Rattle.cutting.specs.steps.Plans.{SomePlan}
+use Rattle.cutting.specs.steps.Plans.{SomePlan, sumHolds}
 use Rattle.cutting.proofs.PlanFields.{some-fields, places-product}
 use Rattle.parity.specs.Matrix.{checks}
 use Rattle.parity.specs.Coded.{coded}
@@ -29,7 +29,7 @@ use Rattle.matching.proofs.Stretch.{word-own, word-filled, Holds, sent-held, co
 use Rattle.matching.proofs.Runs.{kept-length, kept-first}
 use Rattle.matching.proofs.Heard.{in-line-length, in-line-bits, matched-length, to-line, heard-sent-as}
 use Rattle.matching.proofs.Turned.{kept-before}
-use Rattle.block.specs.steps.Blocks.{blockSentAs}
+use Rattle.block.specs.steps.Blocks.{blockSentAs, carriedBy, Tested, Received}
 use Rattle.block.proofs.PlanFields.{word-room, stairs-here}
 
 -- the places in front of a word, one by one
@@ -292,3 +292,24 @@ module _ (R : List ℕ) (p : Plan) (h : SomePlan R p) (s : List ℕ) (own from :
     pub gathered-own : take own (withFiller (p .places) (take own (heard own (p .places) from long s)) ++ take (long - p .places) (drop own (heard own (p .places) from long s)))
         ≡ take own (heard own (p .places) from (columns R * p .z) s)
     gathered-own = rw is (taken-own (heard own (p .places) from (columns R * p .z) s) own (p .places) (columns R * p .z - p .places) line-room)
+
+-- ---- a stretch that was tested, and the test of its checksum behind that
+
+module _ (R : List ℕ) (p : Plan) (s : List ℕ) (own from : ℕ) (b : Bool) (word : List ℕ) (tested : Tested R p s (own + p .sums) from b word) where
+  pub unsent-received : b ≡ false → Received R p s own from false word
+  unsent-received e =
+      record {
+        is = ap (λ (x : Bool). x && sumHolds (p .sums) (carriedBy R p (own + p .sums) from s)) (sym e ∙ tested .is);
+        front = λ q. absurd (true≢false (sym q));
+      }
+
+  module _ (e : b ≡ true) where
+    pub carried-bits : AreBits s → AreBits (take (own + p .sums) word)
+    carried-bits single = rw (tested .front e) (bits-take (own + p .sums) _ (in-line-bits _ _ s single))
+
+    pub sent-received : (r : Bool) → r ≡ sumHolds (p .sums) (take (own + p .sums) word) → Received R p s own from r word
+    sent-received r h =
+        record {
+          is = h ∙ ap (sumHolds (p .sums)) (tested .front e) ∙ ap (λ (x : Bool). x && sumHolds (p .sums) (carriedBy R p (own + p .sums) from s)) (sym e ∙ tested .is);
+          front = λ q. sym (take-take own (own + p .sums) word (omega arith)) ∙ ap (take own) (tested .front e);
+        }

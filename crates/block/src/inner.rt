@@ -1,16 +1,16 @@
 // Steps 3 to 6 of document 01 for one code block, for the crate above, which has cut the transport block: its places, its parity bits, and its share of
-// the radio bits from the place that its version starts at.
+// the radio bits from the place that its version starts at. Behind its places a block is what it carries: where its checksum is, nobody asks.
 use bits::count::CodedBits;
 use checking::Checker;
 use cutting::Plan;
 ghost use mathlib.Core.Path.{_≡_};
 ghost use mathlib.Core.List.{_++_};
-ghost use Prim.Native.Nat.{_≤_};
+ghost use Prim.Native.Nat.{_+_, _≤_};
 ghost use lib.ListN.{length, drop};
 ghost use Rattle.profile.specs.Record.{kind};
 ghost use Rattle.cutting.specs.steps.Plans.{SomePlan};
 ghost use Rattle.matching.specs.Matching.{matched, turned, startOf};
-ghost use Rattle.block.specs.steps.Blocks.{wordSize, Fits, checksBy, SolvedBy, cutPlaces, cutCoded, Codable, Stretch, Tested};
+ghost use Rattle.block.specs.steps.Blocks.{wordSize, Fits, checksBy, SolvedBy, cutPlaces, cutCoded, Codable, Stretch, Tested, Received};
 
 // How many places a coded word has.
 pub fn size(profile: &[u8], plan: Plan) -> usize
@@ -54,13 +54,13 @@ fn is_even(profile: &[u8], plan: Plan, word: &[u8], checker: Checker) -> bool
     checking::inner::checks_by(checker, table, rows, columns, plan.z, word)
 }
 
-// Lays a block's own bits and its filler into the word, and its parity bits behind them.
+// Lays what a block carries and its filler into the word, and its parity bits behind them.
 fn code(profile: &[u8], plan: Plan, bits: &[u8], start: usize, own: usize, word: &mut [u8])
     requires { ⌜ Codable (now profile) plan (now bits) start own (now word) ⌝ }
     ensures { λ _. ⌜ SolvedBy (now (profile .entry)) plan (cutPlaces plan (now (bits .entry)) start own) (now (word .exit)) ⌝ }
 {
     let places = plan.places;
-    cutting::inner::lay_block(bits, start, own, places, word);
+    cutting::inner::lay_block(bits, start, own, plan.sums, places, word);
     solve(profile, plan, word);
 }
 
@@ -80,13 +80,38 @@ pub fn send_block(
     ensures { λ _. ⌜ now (out .exit) ≡ matched (turned from (cutCoded (now (profile .entry)) plan (now (bits .entry)) start own)) (e .0) ++ drop (e .0) (now (out .entry)) ⌝ }
 {
     code(profile, plan, bits, start, own, word);
+    let carried = own + plan.sums;
     let places = plan.places;
-    matching::inner::match_filled(word, own, places, from, e, out);
+    matching::inner::match_filled(word, carried, places, from, e, out);
 }
 
-// Whether a stretch is what the block whose own bits it has in line is sent as from the place `from`: equal copies, and all parity rows. Where it is, the
-// word holds the coded block, own bits first.
-pub fn is_sent_as(
+// Whether a stretch is what the block that carries the bits it has in line is sent as from the place `from`: equal copies, and all parity rows. Where it is,
+// the word holds the coded block, the carried bits first.
+fn is_sent_as(
+    profile: &[u8],
+    plan: Plan,
+    s: &[u8],
+    carried: usize,
+    from: usize,
+    checker: Checker,
+    word: &mut [u8],
+) -> bool
+    requires { ⌜ Stretch (now profile) plan (now s) carried from (now word) ⌝ }
+    ensures { λ r. ⌜ Tested (now (profile .entry)) plan (now (s .entry)) carried from r (now (word .exit)) ⌝ }
+{
+    let places = plan.places;
+    let rest = word.len() - places;
+    let n = carried + rest;
+    if !matching::inner::copies_agree(s, CodedBits(n)) {
+        return false;
+    }
+    matching::inner::gather(s, carried, places, from, word);
+    is_even(profile, plan, word, checker)
+}
+
+// Whether a stretch is what some block with so many own bits is sent as: its carried bits have their checksum too, where they carry one. Where it is, the word
+// holds the coded block, own bits first.
+pub fn is_received(
     profile: &[u8],
     plan: Plan,
     s: &[u8],
@@ -95,15 +120,12 @@ pub fn is_sent_as(
     checker: Checker,
     word: &mut [u8],
 ) -> bool
-    requires { ⌜ Stretch (now profile) plan (now s) own from (now word) ⌝ }
-    ensures { λ r. ⌜ Tested (now (profile .entry)) plan (now (s .entry)) own from r (now (word .exit)) ⌝ }
+    requires { ⌜ Stretch (now profile) plan (now s) (own + plan .sums) from (now word) ⌝ }
+    ensures { λ r. ⌜ Received (now (profile .entry)) plan (now (s .entry)) own from r (now (word .exit)) ⌝ }
 {
-    let places = plan.places;
-    let rest = word.len() - places;
-    let n = own + rest;
-    if !matching::inner::copies_agree(s, CodedBits(n)) {
+    let carried = own + plan.sums;
+    if !is_sent_as(profile, plan, s, carried, from, checker, word) {
         return false;
     }
-    matching::inner::gather(s, own, places, from, word);
-    is_even(profile, plan, word, checker)
+    cutting::inner::sum_holds(&word[..carried], plan.sums)
 }

@@ -23,14 +23,14 @@ module _ (R block : List ℕ) (terms : Terms) (g : ℕ) where
   request-is room = refl
 
   -- and a block that it is not refused for can be cut
-  pub send-planned : (room : ℕ) → sendNumber R block terms g room ≡ 0 → planNumber R (length block) ≡ 0
+  pub send-planned : (room : ℕ) → sendNumber R block terms g room ≡ 0 → planNumber R (terms .edition) (length block) ≡ 0
   send-planned room e = request-passed R (length block) terms g g room (request-is room ∙ e) .0
 
   -- into blocks that the allocation is shared out among
-  pub send-allocated : (room : ℕ) → sendNumber R block terms g room ≡ 0 → Allocated terms g (blocks R (blockBits (length block)))
+  pub send-allocated : (room : ℕ) → sendNumber R block terms g room ≡ 0 → Allocated terms g (blocks R (terms .edition) (blockBits (length block)))
   send-allocated room e =
       let ok = request-passed R (length block) terms g g room (request-is room ∙ e) in
-      allocated terms g (blocks R (blockBits (length block))) (ok .1) (plan-cut R (length block) (ok .0) .some)
+      allocated terms g (blocks R (terms .edition) (blockBits (length block))) (ok .1) (plan-cut R (terms .edition) (length block) (ok .0) .some)
 
   module _ (out : List ℕ) where
     abbrev sent : List ℕ

@@ -17,8 +17,9 @@ use Rattle.bits.proofs.Ranges.{none-any}
 use Rattle.bits.proofs.Sums.{sum-same, sum-mono}
 use Rattle.profile.specs.Record.{kb, kind, z, rows, columns, table}
 use Rattle.profile.proofs.Shape.{columns-is}
-use Rattle.cutting.specs.Plan.{blockBits, blocks, ownBits, sizeIndex, places, filler}
-use Rattle.cutting.specs.Cutting.{ownStart, own, systematic}
+use Rattle.cutting.specs.Plan.{blockBits, sumBits, blocks, ownBits, carriedBits, sizeIndex, places, filler}
+use Rattle.cutting.specs.Cutting.{ownStart, own, carried, systematic}
+use Rattle.cutting.proofs.Summed.{is-sum, length-with-sum, with-sum-bits, with-sum-front}
 use Rattle.cutting.proofs.Plans.{Cut, plan-cut}
 use Rattle.matching.specs.steps.Places.{keptBefore}
 use Rattle.matching.specs.steps.Line.{heard}
@@ -31,35 +32,39 @@ use Rattle.coding.specs.Joining.{blockSent, joined, radioBits}
 use Rattle.coding.specs.Receiving.{someWithoutRoom}
 use Rattle.coding.specs.steps.Shares.{Allocated}
 use Rattle.coding.specs.steps.Sending.{versionStart}
-use Rattle.coding.specs.steps.Receiving.{shareStart, stretch, ownReceived, gathered, Receivable}
+use Rattle.coding.specs.steps.Receiving.{shareStart, stretch, carriedReceived, ownReceived, gathered, Receivable}
 use Rattle.coding.proofs.Joining.{length-joined, joined-stretch, joined-same, joined-bits, joined-cut}
 use Rattle.coding.proofs.Shares.{shares-all}
 use Rattle.coding.proofs.Sent.{block-length, block-sent-is}
 
 -- bits in which every block has room for its coded bits that are not filler
 pub record HasRoom (R : List ℕ) (b : ℕ) (terms : Terms) (bits : List ℕ) : Type 0 where
-  pub cut : Cut R b
-  pub allocated : Allocated terms (length bits) (blocks R b)
+  pub cut : Cut R (terms .edition) b
+  pub allocated : Allocated terms (length bits) (blocks R (terms .edition) b)
   pub single : AreBits bits
-  pub starts : versionStart R b terms ≤ columns R * z R (sizeIndex R b)
-  pub room : (r : ℕ) → r < blocks R b → sendable R b r ≤ share terms (length bits) (blocks R b) r .0
+  pub starts : versionStart R b terms ≤ columns R * z R (sizeIndex R (terms .edition) b)
+  pub room : (r : ℕ) → r < blocks R (terms .edition) b → sendable R (terms .edition) b r ≤ share terms (length bits) (blocks R (terms .edition) b) r .0
 
 pub has-room-of : (R : List ℕ) (octets : ℕ) (terms : Terms) (bits : List ℕ) → Receivable R octets terms bits → HasRoom R (blockBits octets) terms bits
 unfolding someWithoutRoom versionStart
 has-room-of R octets terms bits h =
     let b = blockBits octets in
-    let c = blocks R b in
+    let ed = terms .edition in
+    let c = blocks R ed b in
     record {
-      cut = plan-cut R octets (h .taken);
+      cut = plan-cut R ed octets (h .taken);
       allocated = h .allocated;
       single = h .single;
       starts = start-within (kind R) (terms .rv) _ (versioned (kind R) (terms .rv) (h .version));
-      room = λ r l. ltb-false _ _ (none-any c (λ i. ltb (share terms (length bits) c i .0) (sendable R b i)) (h .room) r l);
+      room = λ r l. ltb-false _ _ (none-any c (λ i. ltb (share terms (length bits) c i .0) (sendable R ed b i)) (h .room) r l);
     }
 
 module _ (R : List ℕ) (b : ℕ) (terms : Terms) (bits : List ℕ) (h : HasRoom R b terms bits) where
+  abbrev ed : ℕ
+  ed = terms .edition
+
   abbrev c : ℕ
-  c = blocks R b
+  c = blocks R ed b
 
   abbrev g : ℕ
   g = length bits
@@ -67,26 +72,33 @@ module _ (R : List ℕ) (b : ℕ) (terms : Terms) (bits : List ℕ) (h : HasRoom
   abbrev mine : ℕ → ℕ
   mine r = ownBits b c r
 
+  abbrev load : ℕ → ℕ
+  load r = carriedBits R ed b r
+
   abbrev given : ℕ → ℕ
   given r = share terms g c r .0
 
   abbrev at : ℕ → ℕ
   at r = shareStart terms g c r
 
-  cut : Cut R b
+  cut : Cut R ed b
   cut = h .cut
 
   -- ---- room
 
-  own-fits : (r : ℕ) → mine r ≤ places R b
-  own-fits r = omega (arith, cut .own-most r, cut .room)
+  load-is : (r : ℕ) → load r ≡ mine r + sumBits R ed b
+  unfolding carriedBits
+  load-is r = refl
 
-  -- N is the block's own bits and its parity bits
-  sendable-is : (r : ℕ) → sendable R b r ≡ mine r + rows R * z R (sizeIndex R b)
+  load-fits : (r : ℕ) → load r ≤ places R ed b
+  load-fits r = omega (arith, load-is r, cut .own-most r, cut .room)
+
+  -- N is what the block carries and its parity bits
+  sendable-is : (r : ℕ) → sendable R ed b r ≡ load r + rows R * z R (sizeIndex R ed b)
   unfolding sendable filler
-  sendable-is r = omega (arith, cut .product, ap (λ (n : ℕ). n * z R (sizeIndex R b)) (columns-is R), add-mul (kb R) (rows R) (z R (sizeIndex R b)), own-fits r)
+  sendable-is r = omega (arith, cut .product, ap (λ (n : ℕ). n * z R (sizeIndex R ed b)) (columns-is R), add-mul (kb R) (rows R) (z R (sizeIndex R ed b)), load-fits r)
 
-  pub has-room : (r : ℕ) → r < c → mine r + rows R * z R (sizeIndex R b) ≤ given r
+  pub has-room : (r : ℕ) → r < c → load r + rows R * z R (sizeIndex R ed b) ≤ given r
   has-room r l = omega (arith, sendable-is r, h .room r l)
 
   -- the stretches are all that was received
@@ -106,32 +118,46 @@ module _ (R : List ℕ) (b : ℕ) (terms : Terms) (bits : List ℕ) (h : HasRoom
   t = gathered R b terms bits
 
   abbrev total : ℕ
-  total = columns R * z R (sizeIndex R b)
+  total = columns R * z R (sizeIndex R ed b)
 
   -- a block's bits in line, as if they had been sent from the first place
   abbrev lined : ℕ → List ℕ → List ℕ
-  lined n s = heard n (places R b) (versionStart R b terms) total s
+  lined n s = heard n (places R ed b) (versionStart R b terms) total s
 
   stretch-length : (r : ℕ) → r < c → length (stretch R b terms bits r) ≡ given r
   unfolding stretch
   stretch-length r l = length-part (given r) (at r) bits (stretch-within r l)
 
-  received-is : (r : ℕ) → ownReceived R b terms bits r ≡ take (mine r) (lined (mine r) (stretch R b terms bits r))
+  carried-is : (r : ℕ) → carriedReceived R b terms bits r ≡ take (load r) (lined (load r) (stretch R b terms bits r))
+  unfolding carriedReceived
+  carried-is r = refl
+
+  received-is : (r : ℕ) → ownReceived R b terms bits r ≡ take (mine r) (carriedReceived R b terms bits r)
   unfolding ownReceived
   received-is r = refl
 
   -- behind the places there are parity bits
-  behind : total - places R b ≡ rows R * z R (sizeIndex R b)
-  behind = omega (arith, cut .product, ap (λ (n : ℕ). n * z R (sizeIndex R b)) (columns-is R), add-mul (kb R) (rows R) (z R (sizeIndex R b)))
+  behind : total - places R ed b ≡ rows R * z R (sizeIndex R ed b)
+  behind = omega (arith, cut .product, ap (λ (n : ℕ). n * z R (sizeIndex R ed b)) (columns-is R), add-mul (kb R) (rows R) (z R (sizeIndex R ed b)))
+
+  pub carried-length : (r : ℕ) → r < c → length (carriedReceived R b terms bits r) ≡ load r
+  carried-length r l =
+      let n : ℕ = load r + (total - places R ed b) in
+      let k : ℕ = keptBefore (load r) (places R ed b) (versionStart R b terms) in
+      let long = in-line-length n k (stretch R b terms bits r) (omega (arith, has-room r l, stretch-length r l, behind)) in
+      ap length (carried-is r) ∙ length-take-le (load r) (lined (load r) (stretch R b terms bits r)) (omega (arith, long))
+
+  pub carried-bits : (r : ℕ) → AreBits (carriedReceived R b terms bits r)
+  unfolding carriedReceived stretch
+  carried-bits r =
+      bits-take (load r) (lined (load r) (stretch R b terms bits r))
+      (in-line-bits _ _ (stretch R b terms bits r) (bits-take (given r) (drop (at r) bits) (bits-drop (at r) bits (h .single))))
 
   received-length : (r : ℕ) → r < c → length (ownReceived R b terms bits r) ≡ mine r
   received-length r l =
-      let n : ℕ = mine r + (total - places R b) in
-      let k : ℕ = keptBefore (mine r) (places R b) (versionStart R b terms) in
-      let long = in-line-length n k (stretch R b terms bits r) (omega (arith, has-room r l, stretch-length r l, behind)) in
-      ap length (received-is r) ∙ length-take-le (mine r) (lined (mine r) (stretch R b terms bits r)) (omega (arith, long))
+      ap length (received-is r) ∙ length-take-le (mine r) (carriedReceived R b terms bits r) (omega (arith, carried-length r l, load-is r))
 
-  pub front-length : (r : ℕ) → r ≤ c → length (joined r (ownReceived R b terms bits)) ≡ ownStart R b r
+  pub front-length : (r : ℕ) → r ≤ c → length (joined r (ownReceived R b terms bits)) ≡ ownStart R (terms .edition) b r
   unfolding ownStart
   front-length r l = length-joined (ownReceived R b terms bits) r ∙ sum-same r _ _ (λ i o. received-length i (omega arith))
 
@@ -140,20 +166,18 @@ module _ (R : List ℕ) (b : ℕ) (terms : Terms) (bits : List ℕ) (h : HasRoom
   gathered-length = front-length c (omega arith) ∙ cut .own-sum
 
   pub gathered-bits : AreBits (gathered R b terms bits)
-  unfolding gathered ownReceived stretch
+  unfolding gathered ownReceived
   gathered-bits =
-      joined-bits (ownReceived R b terms bits) c
-      (λ r l. bits-take (mine r) (lined (mine r) (stretch R b terms bits r))
-      (in-line-bits _ _ (stretch R b terms bits r) (bits-take (given r) (drop (at r) bits) (bits-drop (at r) bits (h .single)))))
+      joined-bits (ownReceived R b terms bits) c (λ r l. bits-take (mine r) (carriedReceived R b terms bits r) (carried-bits r))
 
   -- block r's own bits are those that stand at the beginning of its stretch, once it is in line
-  pub own-gathered : (r : ℕ) → r < c → own R b t r ≡ ownReceived R b terms bits r
+  pub own-gathered : (r : ℕ) → r < c → own R (terms .edition) b t r ≡ ownReceived R b terms bits r
   unfolding own gathered
   own-gathered r l =
       let f = ownReceived R b terms bits in
       let part = joined-stretch f c r l in
       let size : length (f r) ≡ mine r = received-length r l in
-      let start : length (joined r f) ≡ ownStart R b r = front-length r (omega arith) in
+      let start : length (joined r f) ≡ ownStart R ed b r = front-length r (omega arith) in
       rw (size, start) at part
 
   -- ---- transport bits that are sent as the received bits
@@ -193,39 +217,53 @@ module _ (R : List ℕ) (b : ℕ) (terms : Terms) (bits : List ℕ) (h : HasRoom
         ∙ take-all (at c) bits (omega (arith, stretches-end))
 
     -- they are the gathered ones
-    module _ (size : length u ≡ b) (single : AreBits u) (e : radioBits R b u terms g ≡ bits) where
-      own-part : (r : ℕ) → own R b u r ≡ take (mine r) (drop (ownStart R b r) u)
+    module _ (size : length u ≡ b) (single : AreBits u) where
+      own-part : (r : ℕ) → own R ed b u r ≡ take (mine r) (drop (ownStart R ed b r) u)
       unfolding own
       own-part r = refl
 
-      own-size : (r : ℕ) → r < c → length (own R b u r) ≡ mine r
+      own-size : (r : ℕ) → r < c → length (own R ed b u r) ≡ mine r
       unfolding ownStart sumBelow
       own-size r l =
           let within : suc r ≤ c = omega arith in
-          ap length (own-part r) ∙ length-part (mine r) (ownStart R b r) u (omega (arith, size, cut .own-sum, sum-mono mine (suc r) c within))
+          ap length (own-part r) ∙ length-part (mine r) (ownStart R ed b r) u (omega (arith, size, cut .own-sum, sum-mono mine (suc r) c within))
 
-      own-begins : (r : ℕ) → r < c → take (length (own R b u r)) (lined (length (own R b u r)) (blockSent R b u terms g r)) ≡ own R b u r
-      unfolding codedBlock systematic
-      own-begins r l =
+      own-single : (r : ℕ) → AreBits (own R ed b u r)
+      own-single r k = subst (λ (s : List ℕ). getD s k 0 < 2) (sym (own-part r)) (bits-take (mine r) (drop (ownStart R ed b r) u) (bits-drop (ownStart R ed b r) u single) k)
+
+      carried-size : (r : ℕ) → r < c → length (carried R ed b u r) ≡ load r
+      unfolding carried
+      carried-size r l = length-with-sum (sumBits R ed b) (own R ed b u r) (is-sum R ed b) ∙ omega (arith, own-size r l, load-is r)
+
+      carried-begins : (r : ℕ) → r < c → take (length (carried R ed b u r)) (lined (length (carried R ed b u r)) (blockSent R b u terms g r)) ≡ carried R ed b u r
+      unfolding codedBlock systematic carried
+      carried-begins r l =
           let product = cut .product in
-          let y = z R (sizeIndex R b) in
-          let low = cut .known .z-low (sizeIndex R b) (cut .size) in
+          let y = z R (sizeIndex R ed b) in
+          let low = cut .known .z-low (sizeIndex R ed b) (cut .size) in
           let more : y ≤ y * rows R = le-mul-of-pos-right y (omega (arith, cut .known .rows-low)) in
           let some : 0 < rows R * y = omega (arith, mul-comm y (rows R), more, low) in
-          let law = heard-own (table R (sizeIndex R b)) (own R b u r) (kb R) (rows R) (columns R) y (columns-is R)
-          (λ k. subst (λ (s : List ℕ). getD s k 0 < 2) (sym (own-part r)) (bits-take (mine r) (drop (ownStart R b r) u) (bits-drop (ownStart R b r) u single) k))
-          (omega (arith, own-size r l, own-fits r, product)) (versionStart R b terms) (given r) (h .starts) some (omega (arith, own-size r l, has-room r l)) in
-          ap (λ (s : List ℕ). take (length (own R b u r)) (lined (length (own R b u r)) s)) (block-sent-is R b u terms g r cut) ∙ rw product law
+          let law = heard-own (table R (sizeIndex R ed b)) (carried R ed b u r) (kb R) (rows R) (columns R) y (columns-is R)
+          (with-sum-bits (sumBits R ed b) (own R ed b u r) (own-single r))
+          (omega (arith, carried-size r l, load-fits r, product)) (versionStart R b terms) (given r) (h .starts) some (omega (arith, carried-size r l, has-room r l)) in
+          ap (λ (s : List ℕ). take (length (carried R ed b u r)) (lined (length (carried R ed b u r)) s)) (block-sent-is R b u terms g r cut) ∙ rw product law
 
-      own-sent : (r : ℕ) → r < c → own R b u r ≡ ownReceived R b terms bits r
-      unfolding stretch
-      own-sent r l =
-          sym (own-begins r l) ∙ ap₂ (λ (n : ℕ) (s : List ℕ). take n (lined n s)) (own-size r l) (stretch-sent e r l) ∙ sym (received-is r)
+      module _ (e : radioBits R b u terms g ≡ bits) where
+        pub carried-sent : (r : ℕ) → r < c → carried R (terms .edition) b u r ≡ carriedReceived R b terms bits r
+        unfolding stretch
+        carried-sent r l =
+            sym (carried-begins r l) ∙ ap₂ (λ (n : ℕ) (s : List ℕ). take n (lined n s)) (carried-size r l) (stretch-sent e r l) ∙ sym (carried-is r)
 
-      pub sent-gathered : u ≡ t
-      unfolding gathered ownStart
-      sent-gathered =
-          sym (take-all b u (omega (arith, size)))
-          ∙ ap (λ (n : ℕ). take n u) (sym (cut .own-sum))
-          ∙ sym (joined-cut mine u c)
-          ∙ joined-same (λ r. take (mine r) (drop (ownStart R b r) u)) (ownReceived R b terms bits) c (λ r l. sym (own-part r) ∙ own-sent r l)
+        -- the own bits are those in front of what is carried
+        own-sent : (r : ℕ) → r < c → own R ed b u r ≡ ownReceived R b terms bits r
+        unfolding carried
+        own-sent r l =
+            sym (with-sum-front (sumBits R ed b) (own R ed b u r)) ∙ ap₂ take (own-size r l) (carried-sent r l) ∙ sym (received-is r)
+
+        pub sent-gathered : u ≡ t
+        unfolding gathered ownStart
+        sent-gathered =
+            sym (take-all b u (omega (arith, size)))
+            ∙ ap (λ (n : ℕ). take n u) (sym (cut .own-sum))
+            ∙ sym (joined-cut mine u c)
+            ∙ joined-same (λ r. take (mine r) (drop (ownStart R ed b r) u)) (ownReceived R b terms bits) c (λ r l. sym (own-part r) ∙ own-sent r l)

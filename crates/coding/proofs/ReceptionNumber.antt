@@ -17,7 +17,7 @@ use Rattle.bits.proofs.Ranges.{equal-or}
 use Rattle.profile.specs.Record.{kind}
 use Rattle.profile.specs.Promises.{judged}
 use Rattle.profile.proofs.Answers.{judged-first, judged-passed}
-use Rattle.cutting.specs.Plan.{blockBits, blocks}
+use Rattle.cutting.specs.Plan.{blockBits, otherEdition, blocks}
 use Rattle.cutting.specs.Promises.{planNumber}
 use Rattle.cutting.proofs.Plans.{plan-passed, plan-cut}
 use Rattle.matching.specs.Matching.{misversioned}
@@ -29,6 +29,12 @@ use Rattle.coding.specs.steps.Shares.{Allocated}
 use Rattle.coding.specs.steps.Receiving.{Receivable, Decided}
 use Rattle.coding.proofs.Shares.{allocated}
 use Rattle.coding.proofs.RequestNumber.{request-passed}
+
+-- where 7 applies, nothing behind it counts
+before-seven : (o : Bool) (l l' : List (ℕ × Bool)) → answered ((19, o) ∷ (7, true) ∷ l) ≡ answered ((19, o) ∷ (7, true) ∷ l')
+unfolding answered
+before-seven true l l' = refl
+before-seven false l l' = refl
 
 module _ (R : List ℕ) (a : ℕ) (terms : Terms) (bits : List ℕ) (room : ℕ) where
   abbrev g : ℕ
@@ -55,7 +61,7 @@ module _ (R : List ℕ) (a : ℕ) (terms : Terms) (bits : List ℕ) (room : ℕ)
       equal-or (a % 8) 0
       (λ e. rw (eq-eqb (a % 8) 0 e))
       (λ n. equal-or (judged R) 0
-      (λ e. rw (ne-eqb (a % 8) 0 n) (judged-passed R _ e ∙ applies 7 _ refl ∙ sym (judged-passed R _ e ∙ applies 7 _ refl)))
+      (λ e. rw (ne-eqb (a % 8) 0 n) (judged-passed R _ e ∙ before-seven (otherEdition (terms .edition)) _ _ ∙ sym (judged-passed R _ e)))
       (λ e. rw (ne-eqb (a % 8) 0 n) (judged-first R _ e ∙ sym (judged-first R _ e))))
 
   pub reception-first : (requestNumber R o terms g o room ≡ 0 → ⊥) → requestNumber R o terms g o room ≡ receptionNumber R a terms bits room
@@ -66,7 +72,7 @@ module _ (R : List ℕ) (a : ℕ) (terms : Terms) (bits : List ℕ) (room : ℕ)
   reception-last e = in-parts ∙ last-part first last tt (sym request-is ∙ e)
 
   module _ (e : requestNumber R o terms g o room ≡ 0) where
-    abbrev ok : (planNumber R o ≡ 0) × (misallocated terms g ≡ false) × (o ≤ room) × (misversioned (kind R) (terms .rv) ≡ false)
+    abbrev ok : (planNumber R (terms .edition) o ≡ 0) × (misallocated terms g ≡ false) × (o ≤ room) × (misversioned (kind R) (terms .rv) ≡ false)
     ok = request-passed R o terms g o room e
 
     pub octets-are : o ≡ a / 8
@@ -76,10 +82,10 @@ module _ (R : List ℕ) (a : ℕ) (terms : Terms) (bits : List ℕ) (room : ℕ)
         (λ z. rw (eq-eqb (a % 8) 0 z))
         (λ n.
         let none : o ≡ 0 = rw (ne-eqb (a % 8) 0 n) in
-        absurd (omega (arith, none, plan-passed R o (ok .0) .1)))
+        absurd (omega (arith, none, plan-passed R (terms .edition) o (ok .0) .1)))
 
-    pub reception-allocated : (planNumber R o ≡ 0) × Allocated terms g (blocks R (blockBits o))
-    reception-allocated = (ok .0, allocated terms g (blocks R (blockBits o)) (ok .1) (omega (arith, plan-cut R o (ok .0) .some)))
+    pub reception-allocated : (planNumber R (terms .edition) o ≡ 0) × Allocated terms g (blocks R (terms .edition) (blockBits o))
+    reception-allocated = (ok .0, allocated terms g (blocks R (terms .edition) (blockBits o)) (ok .1) (omega (arith, plan-cut R (terms .edition) o (ok .0) .some)))
 
     pub reception-twelve : someOver 1 bits ≡ true → 12 ≡ receptionNumber R a terms bits room
     reception-twelve t = sym (reception-last e ∙ applies 12 _ t)

@@ -21,9 +21,10 @@ use Rattle.bits.proofs.Over.{bits-not-over}
 use Rattle.bits.proofs.Ranges.{below-or}
 use Rattle.bits.proofs.Sums.{sum-same}
 use Rattle.profile.specs.Record.{kind, z, rows, columns, table}
-use Rattle.cutting.specs.Plan.{blockBits, blocks, ownBits, sizeIndex, places}
+use Rattle.cutting.specs.Plan.{blockBits, sumBits, blocks, ownBits, sizeIndex, places}
 use Rattle.cutting.specs.Transport.{transport}
-use Rattle.cutting.specs.Cutting.{ownStart, own, systematic}
+use Rattle.cutting.specs.Cutting.{ownStart, own, carried, systematic}
+use Rattle.cutting.proofs.Summed.{with-sum-bits}
 use Rattle.cutting.proofs.Plans.{plan-passed, plan-cut}
 use Rattle.cutting.proofs.Transported.{transport-bits}
 use Rattle.parity.specs.Coded.{withParity, checksWith, coded}
@@ -108,9 +109,10 @@ turned-marks : (k : ℕ) (s : List ℕ) → AreMarks s → AreMarks (turned k s)
 unfolding turned
 turned-marks k s h = marks-append (drop k s) (take k s) (marks-drop k s h) (marks-take k s h)
 
-own-bits : (R : List ℕ) (b : ℕ) (bits : List ℕ) (r : ℕ) → AreBits bits → AreBits (own R b bits r)
-unfolding own
-own-bits R b bits r h = bits-take (ownBits b (blocks R b) r) (drop (ownStart R b r) bits) (bits-drop (ownStart R b r) bits h)
+carried-bits : (R : List ℕ) (ed b : ℕ) (bits : List ℕ) (r : ℕ) → AreBits bits → AreBits (carried R ed b bits r)
+unfolding own carried
+carried-bits R ed b bits r h =
+    with-sum-bits (sumBits R ed b) (own R ed b bits r) (bits-take (ownBits b (blocks R ed b) r) (drop (ownStart R ed b r) bits) (bits-drop (ownStart R ed b r) bits h))
 
 filled-marks : (n : ℕ) (mine : List ℕ) → AreBits mine → AreMarks (withFiller n mine)
 unfolding withFiller
@@ -119,20 +121,22 @@ filled-marks n mine h = marks-append mine (replicate (n - length mine) 2) (marks
 block-bits : (R : List ℕ) (b : ℕ) (bits : List ℕ) (terms : Terms) (g r : ℕ) → AreBits bits → AreBits (blockSent R b bits terms g r)
 unfolding blockSent matchedFrom codedBlock systematic
 block-bits R b bits terms g r h =
-    let i = sizeIndex R b in
-    let d = startOf (kind R) (terms .rv) (length (codedBlock R b bits r)) in
-    matched-bits (turned d (codedBlock R b bits r)) (share terms g (blocks R b) r .0)
-    (turned-marks d (codedBlock R b bits r)
-    (coded-marks (table R i) (rows R) (columns R) (z R i) (withFiller (places R b) (own R b bits r)) (filled-marks (places R b) (own R b bits r) (own-bits R b bits r h))))
+    let ed = terms .edition in
+    let i = sizeIndex R ed b in
+    let d = startOf (kind R) (terms .rv) (length (codedBlock R ed b bits r)) in
+    matched-bits (turned d (codedBlock R ed b bits r)) (share terms g (blocks R ed b) r .0)
+    (turned-marks d (codedBlock R ed b bits r)
+    (coded-marks (table R i) (rows R) (columns R) (z R i) (withFiller (places R ed b) (carried R ed b bits r))
+    (filled-marks (places R ed b) (carried R ed b bits r) (carried-bits R ed b bits r h))))
 
 pub sent-bits : (R : List ℕ) (b : ℕ) (bits : List ℕ) (terms : Terms) (g : ℕ) → AreBits bits → AreBits (radioBits R b bits terms g)
 unfolding radioBits
-sent-bits R b bits terms g h = joined-bits (blockSent R b bits terms g) (blocks R b) (λ r l. block-bits R b bits terms g r h)
+sent-bits R b bits terms g h = joined-bits (blockSent R b bits terms g) (blocks R (terms .edition) b) (λ r l. block-bits R b bits terms g r h)
 
-pub sent-length : (R : List ℕ) (b : ℕ) (bits : List ℕ) (terms : Terms) (g : ℕ) → Allocated terms g (blocks R b) → length (radioBits R b bits terms g) ≡ g
+pub sent-length : (R : List ℕ) (b : ℕ) (bits : List ℕ) (terms : Terms) (g : ℕ) → Allocated terms g (blocks R (terms .edition) b) → length (radioBits R b bits terms g) ≡ g
 unfolding radioBits
 sent-length R b bits terms g h =
-    let c = blocks R b in
+    let c = blocks R (terms .edition) b in
     let f = blockSent R b bits terms g in
     let given : ℕ → ℕ = λ r. share terms g c r .0 in
     length-joined f c
@@ -178,7 +182,7 @@ module _ {R : List ℕ} (block : List ℕ) {terms : Terms} {g : ℕ} (h : Roomy 
   unfolding sendNumber
   none-refuses room enough =
       let octets = length block in
-      let p = plan-passed R octets (h .taken) in
+      let p = plan-passed R (terms .edition) octets (h .taken) in
       request-none R octets terms g g room (not (within 1 2048 octets)) (ap not (inside octets (p .1) (p .2))) (h .taken) (h .version) (h .allocation) (h .enough) enough
 
   pub sent-always : {out : List ℕ} {r : Written} {o : List ℕ} → g ≤ length out → Sent R block terms g out r o → (r .number ≡ 0) × (r .count ≡ g)
@@ -193,7 +197,7 @@ receivable R octets terms bits h single =
     record {
       taken = h .taken;
       version = h .version;
-      allocated = allocated terms (length bits) (blocks R (blockBits octets)) (h .allocation) (plan-cut R octets (h .taken) .some);
+      allocated = allocated terms (length bits) (blocks R (terms .edition) (blockBits octets)) (h .allocation) (plan-cut R (terms .edition) octets (h .taken) .some);
       single = single;
       room = h .room;
     }
@@ -204,7 +208,7 @@ unfolding receiveNumber notOctets Refusals
 reception-number R a terms bits room h whole single fits =
     let octets = a / 8 in
     let g = length bits in
-    let p = plan-passed R octets (h .taken) in
+    let p = plan-passed R (terms .edition) octets (h .taken) in
     let seven : notOctets a ≡ false = rw (eq-eqb (a % 8) 0 whole, inside octets (p .1) (p .2)) in
     let l14 : List (ℕ × Bool) = (14, not (someSentAs R octets terms bits)) ∷ [] in
     let l13 : List (ℕ × Bool) = (13, someWithoutRoom R octets terms g) ∷ l14 in

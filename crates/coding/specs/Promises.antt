@@ -13,7 +13,7 @@ use Rattle.bits.specs.declared.number.Written.{Written}
 use Rattle.bits.specs.declared.count.Terms.{Terms}
 use Rattle.profile.specs.Record.{kind}
 use Rattle.profile.specs.Promises.{judgeConditions}
-use Rattle.cutting.specs.Plan.{blockBits, blocks}
+use Rattle.cutting.specs.Plan.{blockBits, otherEdition, blocks, tooManyBlocks}
 use Rattle.cutting.specs.Transport.{transport}
 use Rattle.matching.specs.Matching.{misversioned}
 use Rattle.coding.specs.Allocation.{misallocated, symbolPlaces}
@@ -22,18 +22,23 @@ use Rattle.coding.specs.Receiving.{someSentAs, receivedBlock, someWithou
 
 -- ---- what sending and receiving refuse alike; R is the profile's record
 
--- 5 to 9, and 16 "between 7 and 8": `other` is whether the block's length is against 7, which sending and receiving say each in its own words; 9 is
--- "C over 64"
+-- 5 to 9, 19 "before 7" (CR 8) and 16 "between 7 and 8" (CR 3): `other` is whether the block's length is against 7, which sending and receiving say each in
+-- its own words
 abbrev pub cutConditions : List ℕ → Bool → ℕ → Terms → ℕ → List (ℕ × Bool)
 cutConditions R other octets terms g =
     judgeConditions R
-    ++ ((7, other) ∷ (16, misversioned (kind R) (terms .rv)) ∷ (8, misallocated terms g) ∷ (9, ltb 64 (blocks R (blockBits octets))) ∷ [])
+    ++ ((19, otherEdition (terms .edition))
+    ∷ (7, other)
+    ∷ (16, misversioned (kind R) (terms .rv))
+    ∷ (8, misallocated terms g)
+    ∷ (9, tooManyBlocks R (terms .edition) (blockBits octets))
+    ∷ [])
 
 -- 10: "G' below C"
 unfoldable pub tooFewPlaces : List ℕ → ℕ → Terms → ℕ → Bool
-tooFewPlaces R octets terms g = ltb (symbolPlaces terms g .0) (blocks R (blockBits octets))
+tooFewPlaces R octets terms g = ltb (symbolPlaces terms g .0) (blocks R (terms .edition) (blockBits octets))
 
--- 5 to 11 and 16; 11 is "output shorter than G (sending) or A/8 (receiving)", and `need` is that G or A/8
+-- 5 to 11, 16 and 19; 11 is "output shorter than G (sending) or A/8 (receiving)", and `need` is that G or A/8
 abbrev pub requestConditions : List ℕ → Bool → ℕ → Terms → ℕ → ℕ → ℕ → List (ℕ × Bool)
 requestConditions R other octets terms g need lent =
     cutConditions R other octets terms g ++ ((10, tooFewPlaces R octets terms g) ∷ (11, ltb lent need) ∷ [])

@@ -33,4 +33,5 @@ receivedBlock R octets terms bits = nthBlock octets (firstBelow (2 ^ (8 * octets
 -- 13: "E below N in some block"
 unfoldable pub someWithoutRoom : List ℕ → ℕ → Terms → ℕ → Bool
 someWithoutRoom R octets terms g =
-    anyBelow (blocks R (blockBits octets)) (λ r. ltb (share terms g (blocks R (blockBits octets)) r .0) (sendable R (blockBits octets) r))
+    anyBelow (blocks R (terms .edition) (blockBits octets))
+    (λ r. ltb (share terms g (blocks R (terms .edition) (blockBits octets)) r .0) (sendable R (terms .edition) (blockBits octets) r))

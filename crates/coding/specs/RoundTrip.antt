@@ -14,10 +14,10 @@ use Rattle.coding.specs.Allocation.{misallocated}
 use Rattle.coding.specs.Receiving.{someWithoutRoom}
 use Rattle.coding.specs.Promises.{tooFewPlaces}
 
--- "Take an accepted profile, block length and allocation in which every code block has room for all its coded bits that are not filler", and by document 02,
--- CR 3, a redundancy version, "receiver and sender using the same one"
+-- "Take an accepted profile, block length and allocation in which every code block has room for all its coded bits that are not filler", and by document 02 a
+-- redundancy version, "receiver and sender using the same one" (CR 3), and an edition: "Demand 3 holds within one edition, never across two" (CR 8)
 pub record Roomy (R : List ℕ) (octets : ℕ) (terms : Terms) (g : ℕ) : Type 0 where
-  pub taken : planNumber R octets ≡ 0
+  pub taken : planNumber R (terms .edition) octets ≡ 0
   pub version : misversioned (kind R) (terms .rv) ≡ false
   pub allocation : misallocated terms g ≡ false
   pub enough : tooFewPlaces R octets terms g ≡ false

@@ -8,6 +8,7 @@ use bits::count::inner::place_bits;
 use bits::count::inner::symbol_places;
 use bits::number::BLOCK_LENGTH;
 use bits::number::DONE;
+use bits::number::EDITION;
 use bits::number::NO_BIT;
 use bits::number::NO_ROOM;
 use bits::number::PARAMETER;
@@ -16,8 +17,8 @@ use bits::number::TOO_FEW_PLACES;
 use bits::number::VERSION;
 use cutting::Plan;
 ghost use mathlib.Core.Path.{_≡_};
-ghost use Prim.Native.Nat.{_≤_};
-ghost use Rattle.cutting.specs.steps.Plans.{SomePlan};
+ghost use Prim.Native.Nat.{ℕ, _≤_};
+ghost use Rattle.cutting.specs.steps.Plans.{PlanOf, SomePlan};
 ghost use Rattle.coding.specs.Allocation.{misallocated, share};
 ghost use Rattle.coding.specs.Blocks.{sendable};
 ghost use Rattle.coding.specs.steps.Numbers.{cutNumber, requestNumber, octetsOf, receptionNumber};
@@ -49,20 +50,21 @@ pub fn share_of(terms: Terms, g: CodedBits, c: usize, r: usize) -> CodedBits
     coded_bits(SymbolPlaces(each), terms)
 }
 
-// N of block r: its coded places less its filler, which is its places less its own bits.
+// N of block r: its coded places less its filler, which is its places less what it carries. A plan tells of its edition what is needed here.
 pub fn sendable(profile: &[u8], plan: Plan, r: usize) -> CodedBits
     requires { ⌜ SomePlan (now profile) plan ⌝ }
-    ensures { λ n. ⌜ (n .0 ≡ sendable (now (profile .entry)) (plan .bits) r) × (n .0 ≤ 4860) ⌝ }
+    ensures { λ n. ⌜ ((ed : ℕ) → PlanOf (now (profile .entry)) ed plan → n .0 ≡ sendable (now (profile .entry)) ed (plan .bits) r) × (n .0 ≤ 4860) ⌝ }
 {
     let own = cutting::inner::own_bits(plan.bits, plan.blocks, r);
     let all = block::inner::size(profile, plan);
-    let n = all - (plan.places - own);
+    let carried = own + plan.sums;
+    let n = all - (plan.places - carried);
     CodedBits(n)
 }
 
 // 13: whether some block's share is below N.
 pub fn lacks_room(profile: &[u8], plan: Plan, terms: Terms, g: CodedBits) -> bool
-    requires { ⌜ SomePlan (now profile) plan × Allocated terms (g .0) (plan .blocks) ⌝ }
+    requires { ⌜ PlanOf (now profile) (terms .edition) plan × Allocated terms (g .0) (plan .blocks) ⌝ }
     ensures { λ r. ⌜ r ≡ lackingRoom (now (profile .entry)) (plan .bits) terms (g .0) ⌝ }
 {
     let c = plan.blocks;
@@ -78,7 +80,7 @@ pub fn lacks_room(profile: &[u8], plan: Plan, terms: Terms, g: CodedBits) -> boo
     false
 }
 
-// 5 to 9 and 16, tested in their order: 16 between 7 and 8. The profile is judged once.
+// 5 to 9, 16 and 19, tested in their order: 19 before 7, 16 between 7 and 8. The profile is judged once.
 pub fn cut_number(profile: &[u8], octets: usize, terms: Terms, g: CodedBits) -> u32
     ensures { λ r. ⌜ r ≡ cutNumber (now (profile .entry)) octets terms (g .0) ⌝ }
 {
@@ -86,8 +88,11 @@ pub fn cut_number(profile: &[u8], octets: usize, terms: Terms, g: CodedBits) -> 
     if judged != DONE {
         return judged;
     }
-    let plan = cutting::inner::plan_accepted(profile, octets);
+    let plan = cutting::inner::plan_accepted(profile, terms.edition, octets);
     let number = plan.number;
+    if number == EDITION {
+        return EDITION;
+    }
     if number == BLOCK_LENGTH {
         return BLOCK_LENGTH;
     }
@@ -103,7 +108,7 @@ pub fn cut_number(profile: &[u8], octets: usize, terms: Terms, g: CodedBits) -> 
     number
 }
 
-// 5 to 11 and 16, where `need` octets are to be written into `room`. Nothing is divided before 8 is decided.
+// 5 to 11, 16 and 19, where `need` octets are to be written into `room`. Nothing is divided before 8 is decided.
 pub fn request_number(
     profile: &[u8],
     octets: usize,
@@ -118,7 +123,7 @@ pub fn request_number(
     if number != DONE {
         return number;
     }
-    let plan = cutting::inner::plan_accepted(profile, octets);
+    let plan = cutting::inner::plan_accepted(profile, terms.edition, octets);
     let places = symbol_places(g, terms);
     if places.0 < plan.blocks {
         return TOO_FEW_PLACES;
@@ -139,7 +144,7 @@ fn octets_of(a: usize) -> usize
     a / 8
 }
 
-// 5 to 13 and 16, tested in their order.
+// 5 to 13, 16 and 19, tested in their order.
 pub fn reception_number(profile: &[u8], a: usize, terms: Terms, bits: &[u8], room: usize) -> u32
     ensures { λ r. ⌜ r ≡ receptionNumber (now (profile .entry)) a terms (now (bits .entry)) room ⌝ }
 {
@@ -152,7 +157,7 @@ pub fn reception_number(profile: &[u8], a: usize, terms: Terms, bits: &[u8], roo
     if bits::inner::some_over(1, bits) {
         return NO_BIT;
     }
-    let plan = cutting::inner::plan_accepted(profile, octets);
+    let plan = cutting::inner::plan_accepted(profile, terms.edition, octets);
     if lacks_room(profile, plan, terms, g) {
         return NO_ROOM;
     }

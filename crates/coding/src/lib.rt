@@ -28,7 +28,7 @@ fn send_through(
     requires { ⌜ (requestNumber (now profile) (length (now block)) terms (g .0) (g .0) (length (now out)) ≡ 0) × (16408 ≤ length (now bits)) ⌝ }
     ensures { λ r. ⌜ Sent (now (profile .entry)) (now (block .entry)) terms (g .0) (now (out .entry)) r (now (out .exit)) ⌝ }
 {
-    let plan = cutting::inner::plan_accepted(profile, block.len());
+    let plan = cutting::inner::plan_accepted(profile, terms.edition, block.len());
     let b = plan.bits;
     cutting::inner::attach(block, bits);
     sending::send_bits(profile, plan, &bits[..b], terms, g, out);
@@ -79,7 +79,7 @@ fn receive_through(
     requires { ⌜ Receivable (now profile) octets terms (now bits) × (16408 ≤ length (now room)) × (2048 ≤ length (now block)) × (octets ≤ length (now out)) ⌝ }
     ensures { λ r. ⌜ Decided (now (profile .entry)) octets terms (now (bits .entry)) (now (out .entry)) r (now (out .exit)) ⌝ }
 {
-    let plan = cutting::inner::plan_accepted(profile, octets);
+    let plan = cutting::inner::plan_accepted(profile, terms.edition, octets);
     let b = plan.bits;
     if !receiving::rebuild_bits(profile, plan, bits, terms, checker, room) {
         return Written {

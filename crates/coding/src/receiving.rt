@@ -1,4 +1,4 @@
-// Receiving: every block's stretch is gathered into a word and tested in turn, and the word's own bits are kept.
+// Receiving: every block's stretch is gathered into a word and tested in turn, its own checksum with it, and the word's own bits are kept.
 use crate::inner;
 use bits::count::CodedBits;
 use bits::count::Terms;
@@ -35,7 +35,15 @@ fn rebuild(
     while r < c {
         let own = cutting::inner::own_bits(b, c, r);
         let e = inner::share_of(terms, g, c, r);
-        if !block::inner::is_sent_as(profile, plan, &bits[at..at + e.0], own, from, checker, word) {
+        if !block::inner::is_received(
+            profile,
+            plan,
+            &bits[at..at + e.0],
+            own,
+            from,
+            checker,
+            word,
+        ) {
             return false;
         }
         bits::inner::lay(word, 0, room, start, own);

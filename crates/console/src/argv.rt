@@ -37,7 +37,7 @@ fn width(word: &[u8]) -> usize
     if list::has(b"--text\n--plain\n", word) {
         return 1;
     }
-    if list::has(b"--rv\n", word) {
+    if list::has(b"--rv\n--edition\n", word) {
         return 2;
     }
     0

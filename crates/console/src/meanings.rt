@@ -6,7 +6,7 @@ use crate::status;
 // The highest number that a call may answer; a number is the exit status too.
 pub const HIGHEST: u32 = 25;
 
-// Puts the meaning of a number behind the text, or nothing where it has none: a line for each number, from 0 on.
+// Puts the meaning of a number behind the text, or nothing where it has none: a line for each number, from 0 on, and an empty one where no call answers it.
 pub fn line(number: u32, page: &mut [u8], at: usize) -> usize {
     let all = b"done
 the asking tenant is 0
@@ -17,7 +17,7 @@ the profile record is not well formed
 a table of the profile is no staircase, or its extension is wrong
 the transport block is not 1 to 2048 octets
 N_L, Q_m or G is not one that can be sent with
-the block takes more than 64 code blocks
+the block takes more than 64 code blocks, or in edition 2 a code block has no room beside its checksum
 G has fewer symbol places than there are code blocks
 the output is shorter than the result
 a received octet is over 1
@@ -25,6 +25,9 @@ a code block has no room for all its coded bits
 no block is sent as these bits
 unused: never answered, since every code block has parity bits with which it checks
 the redundancy version is over 3, or is not 0 and the profile is of Type 1
+
+
+the edition is not 1 or 2
 ";
     page::put(list::line(all, number as usize), page, at)
 }

@@ -5,5 +5,5 @@ use Prim.Native.Nat.{ℕ}
 use Rattle.cutting.specs.Promises.{planned}
 use Rattle.cutting.specs.declared.Plan.{Plan}
 
-pub planned-agree : (R : List ℕ) (octets : ℕ) {p q : Plan} → p ≡ planned R octets → q ≡ planned R octets → p ≡ q
-planned-agree R octets a b = a ∙ sym b
+pub planned-agree : (R : List ℕ) (ed octets : ℕ) {p q : Plan} → p ≡ planned R ed octets → q ≡ planned R ed octets → p ≡ q
+planned-agree R ed octets a b = a ∙ sym b

@@ -1,5 +1,6 @@
 pub mod Answers
 pub mod Rounding
+pub mod Summed
 pub mod Plans
 pub mod PlanFields
 pub mod Transported

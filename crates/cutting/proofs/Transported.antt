@@ -50,11 +50,12 @@ front-set l vs n e h =
 pub packed-over : (l u : List ℕ) (octets : ℕ) → octets ≤ length l → take octets (sets l 0 (packed octets u)) ≡ packed octets u
 packed-over l u octets h = front-set l (packed octets u) octets (length-packed octets u) h
 
-pub ready-transport : (R block : List ℕ) (p : Plan) → planNumber R (length block) ≡ 0 → p ≡ planned R (length block) → Ready R (transport block) p
-ready-transport R block p e plan =
+pub ready-transport : (R : List ℕ) (ed : ℕ) (block : List ℕ) (p : Plan) → planNumber R ed (length block) ≡ 0 → p ≡ planned R ed (length block)
+    → Ready R ed (transport block) p
+ready-transport R ed block p e plan =
     record {
-      some = record { octets = length block; taken = e; plan = plan };
-      size = length-transport block ∙ sym (bits-is R (length block) p plan e);
+      of = record { octets = length block; taken = e; plan = plan };
+      size = length-transport block ∙ sym (bits-is R ed (length block) p plan e);
       single = transport-bits block;
     }
 

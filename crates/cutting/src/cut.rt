@@ -1,12 +1,12 @@
-// How a transport block is cut by an accepted profile (document 01, "From block to radio bits", steps 1 to 3).
+// How a transport block is cut by an accepted profile (document 01, "From block to radio bits", steps 1 to 3; document 02, CR 8).
 use crate::Plan;
 use bits::number::DONE;
 ghost use mathlib.Core.Path.{_≡_};
-ghost use Prim.Native.Nat.{_≤_, _<_};
+ghost use Prim.Native.Nat.{_-_, _≤_, _<_};
 ghost use Rattle.bits.specs.Counts.{ceil};
 ghost use Rattle.profile.specs.Record.{t};
 ghost use Rattle.profile.specs.Promises.{judged};
-ghost use Rattle.cutting.specs.Plan.{kmax, sizeIndexFor};
+ghost use Rattle.cutting.specs.Plan.{kmax, otherEdition, sumBits, sizeIndexFor};
 ghost use Rattle.cutting.specs.Promises.{cutting, refusal};
 ghost use Rattle.cutting.specs.steps.Plans.{Counted};
 
@@ -25,6 +25,38 @@ pub fn kmax(profile: &[u8]) -> usize
 {
     let last = profile::inner::t(profile) - 1;
     profile::inner::kb(profile) * profile::inner::z(profile, last)
+}
+
+// 19: whether there is no such edition.
+pub fn is_other_edition(edition: usize) -> bool
+    ensures { λ r. ⌜ r ≡ otherEdition edition ⌝ }
+{
+    if edition == 1 {
+        return false;
+    }
+    edition != 2
+}
+
+// L, the bits of a block's checksum, where `most` is Kmax: edition 2 has them where one block is not enough.
+pub fn sums(profile: &[u8], edition: usize, bits: usize, most: usize) -> usize
+    requires { ⌜ most ≡ kmax (now profile) ⌝ }
+    ensures { λ r. ⌜ r ≡ sumBits (now (profile .entry)) edition bits ⌝ }
+{
+    if edition != 2 {
+        return 0;
+    }
+    if bits <= most {
+        return 0;
+    }
+    24
+}
+
+// C, where `most` is Kmax and `sums` is L: so many blocks have room for B bits.
+pub fn count(bits: usize, most: usize, sums: usize) -> usize
+    requires { ⌜ (bits ≤ 16408) × (sums < most) × (most ≤ 1620) ⌝ }
+    ensures { λ r. ⌜ r ≡ ceil bits (most - sums) ⌝ }
+{
+    ceil(bits, most - sums)
 }
 
 // The first of the sizes, and so the smallest, that gives a block this many places. The last gives Kmax.
@@ -56,15 +88,23 @@ pub fn refused(number: u32) -> Plan
         places: 0,
         z: 0,
         index: 0,
+        sums: 0,
     }
 }
 
-// The plan of B bits in C blocks, which are `count`; `most` is Kmax.
-pub fn cutting(profile: &[u8], bits: usize, most: usize, count: usize) -> Plan
-    requires { ⌜ Counted (now profile) bits most count ⌝ }
-    ensures { λ r. ⌜ r ≡ cutting (now (profile .entry)) bits ⌝ }
+// The plan of B bits in C blocks, which are `count`; `most` is Kmax and `sums` is L.
+pub fn cutting(
+    profile: &[u8],
+    edition: usize,
+    bits: usize,
+    most: usize,
+    sums: usize,
+    count: usize,
+) -> Plan
+    requires { ⌜ Counted (now profile) edition bits most sums count ⌝ }
+    ensures { λ r. ⌜ r ≡ cutting (now (profile .entry)) edition bits ⌝ }
 {
-    let need = ceil(bits, count);
+    let need = ceil(bits, count) + sums;
     let index = index_for(profile, need);
     let z = profile::inner::z(profile, index);
     let places = profile::inner::kb(profile) * z;
@@ -76,5 +116,6 @@ pub fn cutting(profile: &[u8], bits: usize, most: usize, count: usize) -> Plan
         places,
         z,
         index,
+        sums,
     }
 }

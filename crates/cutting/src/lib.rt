@@ -19,15 +19,17 @@ pub struct Plan {
     pub z: usize,
     // Which of the record's sizes and tables this z is.
     pub index: usize,
+    // L, how many bits of each block are its checksum: 24, or 0 where it has none.
+    pub sums: usize,
 }
 
-// How a transport block of so many octets is cut.
-pub fn plan_block(profile: &[u8], octets: usize) -> Plan
-    ensures { λ r. ⌜ r ≡ planned (now (profile .entry)) octets ⌝ }
+// How a transport block of so many octets is cut, in either edition.
+pub fn plan_block(profile: &[u8], edition: usize, octets: usize) -> Plan
+    ensures { λ r. ⌜ r ≡ planned (now (profile .entry)) edition octets ⌝ }
 {
     let number = profile::judge(profile);
     if number != DONE {
         return cut::refused(number);
     }
-    inner::plan_accepted(profile, octets)
+    inner::plan_accepted(profile, edition, octets)
 }

@@ -125,6 +125,7 @@ fn asked_for(octets: usize, g: CodedBits) -> Parameters {
             nl: 1,
             qm: 2,
             rv: 0,
+            edition: 1,
         },
         g,
         bad: false,

@@ -9,6 +9,8 @@ use Rattle.bits.specs.declared.count.Terms.{Terms}
 use Rattle.checksum.specs.Promises.{OfBits, OfOctets}
 use Rattle.checksum.specs.declared.Sum.{Sum}
 use Rattle.checksum.proofs.Agreement.{of-bits-agree, of-octets-agree}
+use Rattle.blocksum.specs.Promises.{OfBlockBits}
+use Rattle.blocksum.proofs.Agreement.{of-block-bits-agree}
 use Rattle.masked.specs.Promises.{SumUnder, Appended, WordTested}
 use Rattle.masked.specs.declared.Tested.{Tested}
 use Rattle.masked.proofs.Agreement.{sum-under-agree, append-agree, test-agree}
@@ -41,6 +43,11 @@ of-bits a b = of-bits-agree a b
 pub of-octets : {w : ℕ} {octets : List ℕ} {r r' : Sum} → OfOctets w octets r → OfOctets w octets r' → r ≡ r'
 of-octets a b = of-octets-agree a b
 
+-- ---- blocksum::of_block_bits
+
+pub of-block-bits : {bits : List ℕ} {r r' : Sum} → OfBlockBits bits r → OfBlockBits bits r' → r ≡ r'
+of-block-bits a b = of-block-bits-agree a b
+
 -- ---- masked::sum_under, masked::append, masked::test
 
 pub sum-under : {w m : ℕ} {bits : List ℕ} {r r' : Sum} → SumUnder w m bits r → SumUnder w m bits r' → r ≡ r'
@@ -58,8 +65,8 @@ test a b = test-agree a b
 pub judge : (R : List ℕ) {r r' : ℕ} → r ≡ judged R → r' ≡ judged R → r ≡ r'
 judge R a b = judge-agree R a b
 
-pub plan-block : (R : List ℕ) (octets : ℕ) {r r' : Plan} → r ≡ planned R octets → r' ≡ planned R octets → r ≡ r'
-plan-block R octets a b = planned-agree R octets a b
+pub plan-block : (R : List ℕ) (ed octets : ℕ) {r r' : Plan} → r ≡ planned R ed octets → r' ≡ planned R ed octets → r ≡ r'
+plan-block R ed octets a b = planned-agree R ed octets a b
 
 -- ---- parity::code_block, checking::check_word, checking::row_sums
 

@@ -18,6 +18,7 @@ use Rattle.checksum.specs.Promises.{generator, bitsConditions, bitsNumber, OfBi
 use Rattle.checksum.specs.declared.Sum.{Sum}
 use Rattle.checksum.specs.Masked.{attachedUnder}
 use Rattle.checksum.proofs.Masked.{length-attached-under}
+use Rattle.blocksum.specs.Promises.{blockBitsConditions, blockBitsNumber, OfBlockBits}
 use Rattle.masked.specs.Promises.{SumUnder, appendConditions, appendNumber, Appended, WordTested}
 use Rattle.masked.specs.declared.Tested.{Tested}
 use Rattle.profile.specs.Record.{kb, rows, columns}
@@ -65,6 +66,10 @@ pub of-octets-number : {w : ℕ} {octets : List ℕ} {r : Sum} → OfOctets w oc
 unfolding octetsNumber Refusals
 of-octets-number {w} a = answers (octetsConditions w) tt (a .number)
 
+pub of-block-bits-number : {bits : List ℕ} {r : Sum} → OfBlockBits bits r → Answers (r .number) (blockBitsConditions bits)
+unfolding blockBitsNumber Refusals
+of-block-bits-number {bits} a = answers (blockBitsConditions bits) tt (a .number)
+
 pub sum-under-number : {w m : ℕ} {bits : List ℕ} {r : Sum} → SumUnder w m bits r → Answers (r .number) (bitsConditions w bits)
 unfolding bitsNumber Refusals
 sum-under-number {w} {m} {bits} a = answers (bitsConditions w bits) tt (a .number)
@@ -77,9 +82,9 @@ pub judge-number : (R : List ℕ) {r : ℕ} → r ≡ judged R → Answers r (ju
 unfolding judged Refusals
 judge-number R a = answers (judgeConditions R) tt a
 
-pub plan-block-number : (R : List ℕ) (octets : ℕ) {r : Plan} → r ≡ planned R octets → Answers (r .number) (planConditions R octets)
+pub plan-block-number : (R : List ℕ) (ed octets : ℕ) {r : Plan} → r ≡ planned R ed octets → Answers (r .number) (planConditions R ed octets)
 unfolding planNumber Refusals
-plan-block-number R octets {r} a = answers (planConditions R octets) tt (plan-number R octets r a)
+plan-block-number R ed octets {r} a = answers (planConditions R ed octets) tt (plan-number R ed octets r a)
 
 pub check-word-number : {R : List ℕ} {z : ℕ} {word : List ℕ} {r : Verdict} → WordChecked R z word r → Answers (r .number) (checkConditions R z word)
 unfolding checkNumber Refusals
@@ -122,17 +127,20 @@ of-bits-refused {w} {bits} a n = a .value ∙ when-refused (bitsNumber w bits) _
 pub of-octets-refused : {w : ℕ} {octets : List ℕ} {r : Sum} → OfOctets w octets r → (r .number ≡ 0 → ⊥) → r .value ≡ 0
 of-octets-refused {w} a n = a .value ∙ when-refused (octetsNumber w) _ 0 (λ z. n (a .number ∙ z))
 
+pub of-block-bits-refused : {bits : List ℕ} {r : Sum} → OfBlockBits bits r → (r .number ≡ 0 → ⊥) → r .value ≡ 0
+of-block-bits-refused {bits} a n = a .value ∙ when-refused (blockBitsNumber bits) _ 0 (λ z. n (a .number ∙ z))
+
 pub sum-under-refused : {w m : ℕ} {bits : List ℕ} {r : Sum} → SumUnder w m bits r → (r .number ≡ 0 → ⊥) → r .value ≡ 0
 sum-under-refused {w} {m} {bits} a n = a .value ∙ when-refused (bitsNumber w bits) _ 0 (λ z. n (a .number ∙ z))
 
 pub test-refused : {w m : ℕ} {word : List ℕ} {r : Tested} → WordTested w m word r → (r .number ≡ 0 → ⊥) → r .holds ≡ false
 test-refused {w} {m} {word} a n = a .holds ∙ when-refused (bitsNumber w word) _ false (λ z. n (a .number ∙ z))
 
-pub plan-block-refused : (R : List ℕ) (octets : ℕ) {r : Plan} → r ≡ planned R octets → (r .number ≡ 0 → ⊥)
+pub plan-block-refused : (R : List ℕ) (ed octets : ℕ) {r : Plan} → r ≡ planned R ed octets → (r .number ≡ 0 → ⊥)
     → (r .bits ≡ 0) × (r .kmax ≡ 0) × (r .blocks ≡ 0) × (r .places ≡ 0) × (r .z ≡ 0) × (r .index ≡ 0)
 unfolding planned refusal
-plan-block-refused R octets {r} a n =
-    let e : r ≡ refusal (planNumber R octets) = a ∙ when-refused (planNumber R octets) _ _ (λ z. n (plan-number R octets r a ∙ z)) in
+plan-block-refused R ed octets {r} a n =
+    let e : r ≡ refusal (planNumber R ed octets) = a ∙ when-refused (planNumber R ed octets) _ _ (λ z. n (plan-number R ed octets r a ∙ z)) in
     (ap (λ (p : Plan). p .bits) e, ap (λ (p : Plan). p .kmax) e, ap (λ (p : Plan). p .blocks) e, ap (λ (p : Plan). p .places) e, ap (λ (p : Plan). p .z) e, ap (λ (p : Plan). p .index) e)
 
 pub check-word-refused : {R : List ℕ} {z : ℕ} {word : List ℕ} {r : Verdict} → WordChecked R z word r → (r .number ≡ 0 → ⊥) → r .checks ≡ false
@@ -267,7 +275,7 @@ unfolding NoneHolds
 send-fits R block terms g =
     record {
       size = λ room e. sent-length R (blockBits (length block)) (transport block) terms g (send-allocated R block terms g room e);
-      room = λ room e. let h = send-answers R block terms g room (sym e) .only-done refl in ltb-false room g (h .1 .1 .1 .1 .1 .1 .1 .0);
+      room = λ room e. let h = send-answers R block terms g room (sym e) .only-done refl in ltb-false room g (h .1 .1 .1 .1 .1 .1 .1 .1 .0);
     }
 
 send-writes : {R block : List ℕ} {terms : Terms} {g : ℕ} {out : List ℕ} {r : Written} {o : List ℕ} → Sent R block terms g out r o
@@ -295,7 +303,7 @@ unfolding NoneHolds
 receive-fits R a terms bits =
     record {
       size = λ room e. received-size R (a / 8) terms bits;
-      room = λ room e. let h = receive-answers R a terms bits room (sym e) .only-done refl in ltb-false room (a / 8) (h .1 .1 .1 .1 .1 .1 .1 .0);
+      room = λ room e. let h = receive-answers R a terms bits room (sym e) .only-done refl in ltb-false room (a / 8) (h .1 .1 .1 .1 .1 .1 .1 .1 .0);
     }
 
 receive-writes : {R : List ℕ} {a : ℕ} {terms : Terms} {bits out : List ℕ} {r : Written} {o : List ℕ} → Received R a terms bits out r o

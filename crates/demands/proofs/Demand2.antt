@@ -3,7 +3,7 @@ use mathlib.Core.Path.{_≡_, sym, _∙_, subst}
 use mathlib.Core.Bool.{true, false}
 use mathlib.Core.List.{List}
 use mathlib.Core.Logic.{_⊎_, inl}
-use Prim.Native.Nat.{ℕ, _-_, _*_, _≤_, _<_}
+use Prim.Native.Nat.{ℕ, _+_, _-_, _*_, _≤_, _<_}
 use native.Mathlib.Nat.{le-refl}
 use native.Mathlib.Omega.{arith}
 use denote.Ref.{RefT, now, ptr}
@@ -15,7 +15,7 @@ use Rattle.bits.specs.declared.count.Terms.{Terms}
 use Rattle.bits.proofs.Answers.{when-done}
 use Rattle.bits.proofs.Ranges.{below-or, last-or}
 use Rattle.profile.specs.Record.{kb, t, z}
-use Rattle.cutting.specs.Plan.{blockBits, blocks, sizeIndex}
+use Rattle.cutting.specs.Plan.{blockBits, sumBits, blocks, sizeIndex}
 use Rattle.cutting.specs.Promises.{planNumber}
 use Rattle.cutting.proofs.Plans.{plan-cut}
 use Rattle.coding.specs.Allocation.{misallocated, share}
@@ -37,22 +37,22 @@ use Rattle.demands.proofs.Steps.{steps, steps-only}
 -- ---- "Sending gives bit for bit what 5G.212 v2.3 defines, as document 01 states it"
 
 module _ {R block : List ℕ} {terms : Terms} {g : ℕ} {out : List ℕ} {r : Written} {o : List ℕ} (s : Sent R block terms g out r o) (done : r .number ≡ 0) where
-  passed : planNumber R (length block) ≡ 0
+  passed : planNumber R (terms .edition) (length block) ≡ 0
   passed = send-planned R block terms g (length out) (sym (s .number) ∙ done)
 
-  given : Allocated terms g (blocks R (blockBits (length block)))
+  given : Allocated terms g (blocks R (terms .edition) (blockBits (length block)))
   given = send-allocated R block terms g (length out) (sym (s .number) ∙ done)
 
   -- where sending answers 0 (when it does is in Demand1), G octets are written, and they follow the six steps
   pub sends : (r .count ≡ g) × (Steps R block terms g (take g o))
   sends = (
     s .count ∙ when-done (sendNumber R block terms g (length out)) g 0 (sym (s .number) ∙ done),
-    subst (Steps R block terms g) (sym (sent-front s done)) (steps R block passed terms g given),
+    subst (Steps R block terms g) (sym (sent-front s done)) (steps R block terms passed g given),
   )
 
   -- and no other bits follow them
   pub sends-only : (bits : List ℕ) → Steps R block terms g bits → bits ≡ take g o
-  sends-only bits h = steps-only R block passed terms g given bits h ∙ sym (sent-front s done)
+  sends-only bits h = steps-only R block terms passed g given bits h ∙ sym (sent-front s done)
 
 -- the same over the hosted call, with the record that was found
 module _ {private public : List ℕ} {t p : ℕ} {block : List ℕ} {terms : Terms} {g : ℕ} {out : List ℕ} {r : Written} {o : List ℕ}
@@ -67,22 +67,23 @@ module _ {private public : List ℕ} {t p : ℕ} {block : List ℕ} {terms : Ter
 pub shares-are-all : (terms : Terms) (g c : ℕ) → misallocated terms g ≡ false → 0 < c → sumBelow c (λ r. share terms g c r .0) ≡ g
 shares-are-all terms g c right some = shares-all terms g c (allocated terms g c right some)
 
--- "Kmax is kb times the largest z", "the smallest z with kb·z ≥ ceil(B/C)": the last of an accepted record's sizes is the largest, and the one that is
--- chosen is enough and the smallest that is
-module _ (R : List ℕ) (octets : ℕ) (taken : planNumber R octets ≡ 0) where
+-- "Kmax is kb times the largest z", "the smallest z with kb·z ≥ ceil(B/C)", and with checksums "the smallest that holds ceil(B/C) + 24" (CR 8): the last of an
+-- accepted record's sizes is the largest, and the one that is chosen is enough and the smallest that is
+module _ (R : List ℕ) (ed octets : ℕ) (taken : planNumber R ed octets ≡ 0) where
   pub largest : (j : ℕ) → j < t R → z R j ≤ z R (t R - 1)
-  largest j l = last-or j (t R - 1) (omega arith) (λ b. let up = plan-cut R octets taken .known .rise j (t R - 1) b (omega arith) in omega arith) (λ e. rw e (le-refl _))
+  largest j l = last-or j (t R - 1) (omega arith) (λ b. let up = plan-cut R ed octets taken .known .rise j (t R - 1) b (omega arith) in omega arith) (λ e. rw e (le-refl _))
 
-  pub enough : ceil (blockBits octets) (blocks R (blockBits octets)) ≤ kb R * z R (sizeIndex R (blockBits octets))
-  enough = let cut = plan-cut R octets taken in omega (arith, cut .room, cut .product)
+  pub enough : ceil (blockBits octets) (blocks R ed (blockBits octets)) + sumBits R ed (blockBits octets) ≤ kb R * z R (sizeIndex R ed (blockBits octets))
+  enough = let cut = plan-cut R ed octets taken in omega (arith, cut .room, cut .product)
 
-  pub smallest : (j : ℕ) → j < t R → ceil (blockBits octets) (blocks R (blockBits octets)) ≤ kb R * z R j → z R (sizeIndex R (blockBits octets)) ≤ z R j
+  pub smallest : (j : ℕ) → j < t R → ceil (blockBits octets) (blocks R ed (blockBits octets)) + sumBits R ed (blockBits octets) ≤ kb R * z R j
+      → z R (sizeIndex R ed (blockBits octets)) ≤ z R j
   smallest j l h =
-      let cut = plan-cut R octets taken in
-      below-or j (sizeIndex R (blockBits octets))
+      let cut = plan-cut R ed octets taken in
+      below-or j (sizeIndex R ed (blockBits octets))
       (λ b. absurd (omega (arith, cut .least j b)))
-      (λ b. last-or (sizeIndex R (blockBits octets)) j (omega arith)
-      (λ o. let up = cut .known .rise (sizeIndex R (blockBits octets)) j o l in omega arith) (λ e. rw e (le-refl _)))
+      (λ b. last-or (sizeIndex R ed (blockBits octets)) j (omega arith)
+      (λ o. let up = cut .known .rise (sizeIndex R ed (blockBits octets)) j o l in omega arith) (λ e. rw e (le-refl _)))
 
 -- "and receiving undoes it where every code block has room": Demand3, returns and hosted-returns
 

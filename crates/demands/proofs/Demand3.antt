@@ -55,7 +55,7 @@ module _ {private public : List ℕ} {t p : ℕ} where
   pub hosted-sent : (block : List ℕ) {terms : Terms} {g : ℕ} {out : List ℕ} {r : Written} {o : List ℕ}
       → Roomy (lookupRecord private public t p) (length block) terms g → g ≤ length out
       → HostedSent private public t p block terms g out r o → (r .number ≡ 0) × (r .count ≡ g)
-  hosted-sent block h room s = sent-always block h room (s .found (planned-found private public t p (length block) (h .taken)))
+  hosted-sent block {terms} h room s = sent-always block h room (s .found (planned-found private public t p (terms .edition) (length block) (h .taken)))
 
   -- "Two different transport blocks are never sent as the same bits"
   pub hosted-apart : {block block' : List ℕ} {terms : Terms} {g : ℕ} {out : List ℕ} {r : Written} {o out' : List ℕ} {r' : Written} {o' : List ℕ}
@@ -63,8 +63,8 @@ module _ {private public : List ℕ} {t p : ℕ} where
       → g ≤ length out → HostedSent private public t p block terms g out r o
       → g ≤ length out' → HostedSent private public t p block' terms g out' r' o'
       → take g o ≡ take g o' → block ≡ block'
-  hosted-apart {block = block} h whole whole' size room s room' s' e =
-      let z = planned-found private public t p (length block) (h .taken) in
+  hosted-apart {block = block} {terms = terms} h whole whole' size room s room' s' e =
+      let z = planned-found private public t p (terms .edition) (length block) (h .taken) in
       sent-apart h whole whole' size room (s .found z) room' (s' .found z) e
 
   -- "receiving the sent bits returns the block"
@@ -73,8 +73,8 @@ module _ {private public : List ℕ} {t p : ℕ} where
       → g ≤ length out → HostedSent private public t p block terms g out r o
       → HostedReceived private public t p (8 * length block) terms (take g o) buf r' buf'
       → (r' .number ≡ 0) × (r' .count ≡ length block) × (take (length block) buf' ≡ block) × (buf' ≡ block ++ drop (length block) buf)
-  hosted-returns {block = block} h whole fits room s v =
-      let z = planned-found private public t p (length block) (h .taken) in
+  hosted-returns {block = block} {terms = terms} h whole fits room s v =
+      let z = planned-found private public t p (terms .edition) (length block) (h .taken) in
       sent-returns h whole fits room (s .found z) (v .found z)
 
   -- "and received noughts and ones, as many as the allocation gives, are refused as unsent exactly when no transport block of that length is sent
@@ -85,7 +85,7 @@ module _ {private public : List ℕ} {t p : ℕ} where
       → (r .number ≡ 14 → NoneSentAs (λ block out r out'. HostedSent private public t p block terms (length bits) out r out') octets bits)
       × (NoneSentAs (λ block out r out'. HostedSent private public t p block terms (length bits) out r out') octets bits → r .number ≡ 14)
   hosted-exactly {octets} {terms} {bits} h single fits v =
-      let z = planned-found private public t p octets (h .taken) in
+      let z = planned-found private public t p (terms .edition) octets (h .taken) in
       let both-ways = unsent-exactly h single fits (v .found z) in (
         λ e block whole size out w out' room s. both-ways .0 e block whole size out w out' room (s .found z),
         λ none. both-ways .1 (λ block whole size out w out' room s. none block whole size out w out' room (hosted-found private public t p _ _ _ _ z _ refl s)),

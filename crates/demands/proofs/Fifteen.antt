@@ -53,13 +53,13 @@ parity-always R z' places accepted size long =
     has-parity (tableFor R z') (rows R) (columns R) z' places (kb R) long (ready R z' accepted size .stairs)
 
 -- and no transport block that can be cut has a block without them
-pub fifteen-never : (R block : List ℕ) → planNumber R (length block) ≡ 0 → someWithoutParity R block ≡ false
+pub fifteen-never : (R : List ℕ) (ed : ℕ) (block : List ℕ) → planNumber R ed (length block) ≡ 0 → someWithoutParity R ed block ≡ false
 unfolding someWithoutParity blockHasParity
-fifteen-never R block taken =
+fifteen-never R ed block taken =
     let b = blockBits (length block) in
-    let i = sizeIndex R b in
-    any-none (blocks R b) _
-    (λ r l. ap not (has-parity (table R i) (rows R) (columns R) (z R i) (systematic R b (transport block) r) (kb R) (sys-size R block taken r l) (stairs R block taken)))
+    let i = sizeIndex R ed b in
+    any-none (blocks R ed b) _
+    (λ r l. ap not (has-parity (table R i) (rows R) (columns R) (z R i) (systematic R ed b (transport block) r) (kb R) (sys-size R ed block taken r l) (stairs R ed block taken)))
 
 -- ---- the list with 15 and the list without it answer alike, for every input
 
@@ -73,8 +73,8 @@ last-idle l r n c idle =
 pub send-the-same : (R block : List ℕ) (terms : Terms) (g lent : ℕ) → answered (sendWithFifteen R block terms g lent) ≡ sendNumber R block terms g lent
 unfolding sendNumber Refusals
 send-the-same R block terms g lent =
-    last-idle (sendConditions R block terms g lent) tt 15 (someWithoutParity R block)
-    (λ e. fifteen-never R block (send-planned R block terms g lent e))
+    last-idle (sendConditions R block terms g lent) tt 15 (someWithoutParity R (terms .edition) block)
+    (λ e. fifteen-never R (terms .edition) block (send-planned R block terms g lent e))
 
 pub hosted-the-same : (private public : List ℕ) (t p : ℕ) (block : List ℕ) (terms : Terms) (g lent : ℕ)
     → answered (hostedWithFifteen private public t p block terms g lent)

@@ -19,16 +19,16 @@ use Rattle.demands.proofs.Order.{answers}
 use Rattle.demands.proofs.Outputs.{untouched}
 
 -- nothing is no profile record
-none-planned : (octets : ℕ) → planNumber [] octets ≡ 0 → ⊥
+none-planned : (ed octets : ℕ) → planNumber [] ed octets ≡ 0 → ⊥
 unfolding planNumber answered wellFormed headerRight kb numberAt
-none-planned octets e = omega arith
+none-planned ed octets e = omega arith
 
 -- a lookup that refuses gives nothing, so an accepted profile was looked up
-pub planned-found : (private public : List ℕ) (t p octets : ℕ) → planNumber (lookupRecord private public t p) octets ≡ 0 → lookupNumber private public t p ≡ 0
+pub planned-found : (private public : List ℕ) (t p ed octets : ℕ) → planNumber (lookupRecord private public t p) ed octets ≡ 0 → lookupNumber private public t p ≡ 0
 unfolding lookupRecord
-planned-found private public t p octets e =
+planned-found private public t p ed octets e =
     equal-or (lookupNumber private public t p) 0 (λ z. z)
-    (λ n. absurd (none-planned octets (ap (λ (l : List ℕ). planNumber l octets) (sym (when-refused (lookupNumber private public t p) _ [] n)) ∙ e)))
+    (λ n. absurd (none-planned ed octets (ap (λ (l : List ℕ). planNumber l ed octets) (sym (when-refused (lookupNumber private public t p) _ [] n)) ∙ e)))
 
 -- lookup's number where it refuses, and else that of the call on the record: lookup's numbers, and then the call's
 pub looked-answers : (private public : List ℕ) (t p : ℕ) (last : List (ℕ × Bool)) → Refusals (lookupConditions private public t p ++ last) → {number : ℕ}

@@ -9,6 +9,7 @@ pub mod Rising
 pub mod Demand2
 pub mod Demand3
 pub mod Versions
+pub mod Editions
 pub mod Worked
 pub mod Fifteen
 pub mod Masked

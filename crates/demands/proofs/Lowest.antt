@@ -12,12 +12,16 @@ use Rattle.demands.specs.Numbers.{rank, First, Answers, Applies, NoneBel
 
 -- ---- the ranks
 
-ranked : (n : ℕ) → (n ≡ 16 → ⊥) → rank n ≡ 2 * n
-unfolding rank
-ranked n other = rw (ne-eqb n 16 other)
+-- a number that no request puts elsewhere
+abbrev pub Counted : ℕ → Type 0
+Counted n = (n ≡ 16 → ⊥) × (n ≡ 19 → ⊥)
 
--- all numbers but 16 keep their order, those of document 01 among them
-module _ (a b : ℕ) (other : a ≡ 16 → ⊥) (other' : b ≡ 16 → ⊥) where
+ranked : (n : ℕ) → Counted n → rank n ≡ 2 * n
+unfolding rank
+ranked n other = rw (ne-eqb n 16 (other .0), ne-eqb n 19 (other .1))
+
+-- all numbers but 16 and 19 keep their order, those of document 01 among them
+module _ (a b : ℕ) (other : Counted a) (other' : Counted b) where
   pub ranks-rise : a < b → rank a < rank b
   ranks-rise h = omega (arith, ranked a other, ranked b other')
 
@@ -28,6 +32,11 @@ module _ (a b : ℕ) (other : a ≡ 16 → ⊥) (other' : b ≡ 16 → ⊥) wher
 pub between : (rank 7 < rank 16) × (rank 16 < rank 8)
 unfolding rank
 between = (lit< tt, lit< tt)
+
+-- "19, before 7": behind 5 and 6
+pub before-seven : (rank 6 < rank 19) × (rank 19 < rank 7)
+unfolding rank
+before-seven = (lit< tt, lit< tt)
 
 -- ---- lists
 

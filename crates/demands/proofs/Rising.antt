@@ -1,5 +1,5 @@
--- "The lowest number that applies is answered", by every call of document 01 and those of CR 9 and CR 4, 16 standing "between 7 and 8" as CR 3 has it: their
--- lists rise by rank, so the first number whose condition holds is the lowest.
+-- "The lowest number that applies is answered", by every call of document 01 and those of CR 9, CR 4 and CR 8, 16 standing "between 7 and 8" as CR 3 has it
+-- and 19 "before 7" as CR 8 has it: their lists rise by rank, so the first number whose condition holds is the lowest.
 use mathlib.Core.Path.{_≡_, refl}
 use mathlib.Core.List.{List, _++_}
 use Prim.Native.Nat.{ℕ}
@@ -8,6 +8,7 @@ use Rattle.bits.specs.declared.number.Written.{Written}
 use Rattle.bits.specs.declared.count.Terms.{Terms}
 use Rattle.checksum.specs.Promises.{bitsConditions, OfBits, octetsConditions, OfOctets}
 use Rattle.checksum.specs.declared.Sum.{Sum}
+use Rattle.blocksum.specs.Promises.{blockBitsConditions, OfBlockBits}
 use Rattle.masked.specs.Promises.{SumUnder, appendConditions, Appended, WordTested}
 use Rattle.masked.specs.declared.Tested.{Tested}
 use Rattle.profile.specs.Promises.{judgeConditions, judged}
@@ -22,7 +23,7 @@ use Rattle.shelf.specs.Lookup.{lookupConditions, lookupNumber, lookupRecord}
 use Rattle.shelf.specs.Promises.{HostedSent, HostedReceived, HostedChecked}
 use Rattle.demands.specs.Numbers.{rank, Lowest}
 use Rattle.demands.proofs.Lowest.{rising, lowest}
-use Rattle.demands.proofs.Demand1.{of-bits-number, of-octets-number, sum-under-number, append-number, test-number, judge-number, plan-block-number, code-block-number, check-word-number, row-sums-number, rate-match-number, send-number, receive-number, lookup-number-number, hosted-send-number, hosted-receive-number, hosted-check-number}
+use Rattle.demands.proofs.Demand1.{of-bits-number, of-octets-number, of-block-bits-number, sum-under-number, append-number, test-number, judge-number, plan-block-number, code-block-number, check-word-number, row-sums-number, rate-match-number, send-number, receive-number, lookup-number-number, hosted-send-number, hosted-receive-number, hosted-check-number}
 
 pub of-bits-lowest : {w : ℕ} {bits : List ℕ} {r : Sum} → OfBits w bits r
     → Lowest (r .number) (bitsConditions w bits)
@@ -33,6 +34,11 @@ pub of-octets-lowest : {w : ℕ} {octets : List ℕ} {r : Sum} → OfOctets w oc
     → Lowest (r .number) (octetsConditions w)
 unfolding rising rank
 of-octets-lowest {w} a = lowest (octetsConditions w) refl (of-octets-number a)
+
+pub of-block-bits-lowest : {bits : List ℕ} {r : Sum} → OfBlockBits bits r
+    → Lowest (r .number) (blockBitsConditions bits)
+unfolding rising rank
+of-block-bits-lowest {bits} a = lowest (blockBitsConditions bits) refl (of-block-bits-number a)
 
 pub sum-under-lowest : {w m : ℕ} {bits : List ℕ} {r : Sum} → SumUnder w m bits r
     → Lowest (r .number) (bitsConditions w bits)
@@ -54,10 +60,10 @@ pub judge-lowest : (R : List ℕ) {r : ℕ} → r ≡ judged R
 unfolding rising rank
 judge-lowest R a = lowest (judgeConditions R) refl (judge-number R a)
 
-pub plan-block-lowest : (R : List ℕ) (octets : ℕ) {r : Plan} → r ≡ planned R octets
-    → Lowest (r .number) (planConditions R octets)
+pub plan-block-lowest : (R : List ℕ) (ed octets : ℕ) {r : Plan} → r ≡ planned R ed octets
+    → Lowest (r .number) (planConditions R ed octets)
 unfolding rising rank
-plan-block-lowest R octets a = lowest (planConditions R octets) refl (plan-block-number R octets a)
+plan-block-lowest R ed octets a = lowest (planConditions R ed octets) refl (plan-block-number R ed octets a)
 
 pub code-block-lowest : {R : List ℕ} {z : ℕ} {places out : List ℕ} {r : Written} {o : List ℕ} → BlockCoded R z places out r o
     → Lowest (r .number) (codeConditions R z places (length out))

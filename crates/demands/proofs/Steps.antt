@@ -2,7 +2,7 @@
 use mathlib.Core.Path.{_≡_, refl, sym, ap, ap₂, _∙_, subst}
 use mathlib.Core.Bool.{cond}
 use mathlib.Core.List.{List}
-use Prim.Native.Nat.{ℕ, suc, _-_, _*_, _/_, _≤_, _<_}
+use Prim.Native.Nat.{ℕ, suc, _+_, _-_, _*_, _/_, _≤_, _<_}
 use native.Mathlib.Nat.{add-mul}
 use native.Mathlib.Omega.{arith}
 use lib.Dec.{eqb}
@@ -13,14 +13,16 @@ use Rattle.bits.specs.Ranges.{sumBelow}
 use Rattle.bits.specs.Bits.{withFiller}
 use Rattle.bits.specs.declared.count.Terms.{Terms}
 use Rattle.bits.proofs.Lists.{length-part}
+use Rattle.bits.proofs.Ranges.{equal-or, below-or}
 use Rattle.bits.proofs.Sums.{sum-same, sum-mono}
 use Rattle.checksum.specs.Crc.{attached}
 use Rattle.profile.specs.Record.{kb, m, kind, rows, columns, z, table}
 use Rattle.profile.proofs.Shape.{columns-is}
-use Rattle.cutting.specs.Plan.{blockBits, blocks, ownBits, sizeIndex, places}
+use Rattle.cutting.specs.Plan.{blockBits, kmax, sumBits, blocks, ownBits, sizeIndex, places}
 use Rattle.cutting.specs.Promises.{planNumber}
 use Rattle.cutting.specs.Transport.{transport}
-use Rattle.cutting.specs.Cutting.{ownStart, own, systematic}
+use Rattle.cutting.specs.Cutting.{ownStart, own, carried, systematic}
+use Rattle.cutting.proofs.Summed.{sum-none, sum-single, sum-there, is-sum, without-sum, with-its-sum, length-with-sum}
 use Rattle.cutting.proofs.Plans.{Cut, plan-passed, plan-cut}
 use Rattle.cutting.proofs.Transported.{length-transport, transport-bits}
 use Rattle.parity.specs.Matrix.{checks}
@@ -37,9 +39,9 @@ use Rattle.coding.specs.steps.Shares.{Allocated}
 use Rattle.coding.proofs.Shares.{shares-all}
 use Rattle.coding.proofs.Joining.{length-joined, joined-stretch, joined-same, joined-cut}
 use Rattle.coding.proofs.RoundTrip.{sent-length, sent-bits}
-use Rattle.demands.specs.Steps.{blockCount, blockPlaces, blockIndex, allPlaces, blockShare, codedLength, blockStart, Word, Steps}
+use Rattle.demands.specs.Steps.{blockCount, blockPlaces, blockIndex, allPlaces, blockShare, codedLength, blockStart, Carries, Word, Steps}
 
-module _ (R block : List ℕ) (taken : planNumber R (length block) ≡ 0) where
+module _ (R : List ℕ) (ed : ℕ) (block : List ℕ) (taken : planNumber R ed (length block) ≡ 0) where
   abbrev u : List ℕ
   u = transport block
 
@@ -47,13 +49,13 @@ module _ (R block : List ℕ) (taken : planNumber R (length block) ≡ 0) where
   b = blockBits (length block)
 
   abbrev c : ℕ
-  c = blocks R b
+  c = blocks R ed b
 
   abbrev i : ℕ
-  i = sizeIndex R b
+  i = sizeIndex R ed b
 
-  cut : Cut R b
-  cut = plan-cut R (length block) taken
+  cut : Cut R ed b
+  cut = plan-cut R ed (length block) taken
 
   size : length u ≡ b
   size = length-transport block
@@ -63,53 +65,79 @@ module _ (R block : List ℕ) (taken : planNumber R (length block) ≡ 0) where
 
   -- ---- the own bits
 
-  own-is : (r : ℕ) → own R b u r ≡ take (mine r) (drop (ownStart R b r) u)
+  own-is : (r : ℕ) → own R ed b u r ≡ take (mine r) (drop (ownStart R ed b r) u)
   unfolding own mine
   own-is r = refl
 
-  own-size : (r : ℕ) → r < c → length (own R b u r) ≡ mine r
+  own-size : (r : ℕ) → r < c → length (own R ed b u r) ≡ mine r
   unfolding ownStart sumBelow mine
   own-size r l =
       let within : suc r ≤ c = omega arith in
-      ap length (own-is r) ∙ length-part (mine r) (ownStart R b r) u (omega (arith, size, cut .own-sum, sum-mono mine (suc r) c within))
+      ap length (own-is r) ∙ length-part (mine r) (ownStart R ed b r) u (omega (arith, size, cut .own-sum, sum-mono mine (suc r) c within))
 
-  own-fits : (r : ℕ) → mine r ≤ places R b
-  unfolding mine
-  own-fits r = omega (arith, cut .own-most r, cut .room)
-
-  own-together : joined c (own R b u) ≡ u
+  own-together : joined c (own R ed b u) ≡ u
   unfolding ownStart mine
   own-together =
-      joined-same (own R b u) (λ r. take (mine r) (drop (ownStart R b r) u)) c (λ r l. own-is r) ∙ joined-cut mine u c
+      joined-same (own R ed b u) (λ r. take (mine r) (drop (ownStart R ed b r) u)) c (λ r l. own-is r) ∙ joined-cut mine u c
       ∙ ap (λ (n : ℕ). take n u) (cut .own-sum) ∙ take-all b u (omega (arith, size))
+
+  -- ---- what a block carries
+
+  abbrev load : ℕ → List ℕ
+  load r = carried R ed b u r
+
+  load-carries : (r : ℕ) → Carries R ed (length block) (own R ed b u r) (load r)
+  unfolding carried attached
+  load-carries r =
+      let mine = own R ed b u r in
+      record {
+        alone = λ n. without-sum (sumBits R ed b) mine (sum-none R ed b n);
+        single = λ h. without-sum (sumBits R ed b) mine (sum-single R ed b h);
+        followed = λ e h. with-its-sum (sumBits R ed b) mine (λ z. omega (arith, sum-there R ed b e h));
+      }
+
+  -- and nothing else
+  load-only : (r : ℕ) (s : List ℕ) → Carries R ed (length block) (own R ed b u r) s → s ≡ load r
+  load-only r s h =
+      let mine = load-carries r in
+      equal-or ed 2 (λ e. below-or (kmax R) b (λ l. h .followed e l ∙ sym (mine .followed e l)) (λ l. h .single l ∙ sym (mine .single l)))
+      (λ n. h .alone n ∙ sym (mine .alone n))
+
+  load-size : (r : ℕ) → r < c → length (load r) ≡ mine r + sumBits R ed b
+  unfolding carried
+  load-size r l = length-with-sum (sumBits R ed b) (own R ed b u r) (is-sum R ed b) ∙ ap (λ (n : ℕ). n + sumBits R ed b) (own-size r l)
+
+  load-fits : (r : ℕ) → mine r + sumBits R ed b ≤ places R ed b
+  unfolding mine
+  load-fits r = omega (arith, cut .own-most r, cut .room)
 
   -- ---- the coded block
 
   abbrev sys : ℕ → List ℕ
-  sys r = systematic R b u r
+  sys r = systematic R ed b u r
 
   pub sys-size : (r : ℕ) → r < c → length (sys r) ≡ kb R * z R i
   unfolding systematic withFiller
   sys-size r l =
-      let o = length (own R b u r) in
-      length-append (own R b u r) (replicate (places R b - o) 2)
-      ∙ omega (arith, own-size r l, length-replicate {A = ℕ} (places R b - o) 2, cut .product, own-fits r)
+      let o = length (load r) in
+      length-append (load r) (replicate (places R ed b - o) 2)
+      ∙ omega (arith, load-size r l, length-replicate {A = ℕ} (places R ed b - o) 2, cut .product, load-fits r)
 
   abbrev word : ℕ → List ℕ
-  word r = codedBlock R b u r
+  word r = codedBlock R ed b u r
 
   word-is : (r : ℕ) → word r ≡ coded (table R i) (rows R) (columns R) (z R i) (sys r)
   unfolding codedBlock
   word-is r = refl
 
   pub stairs : Solvable (table R i) (kb R) (m R) (rows R) (columns R)
-  stairs = table-stairs R (plan-passed R (length block) taken .0) i (cut .size)
+  stairs = table-stairs R (plan-passed R ed (length block) taken .0) i (cut .size)
 
-  word-coded : (r : ℕ) → r < c → Word R (length block) (own R b u r) (word r)
+  word-coded : (r : ℕ) → r < c → Word R ed (length block) (load r) (word r)
   unfolding blockPlaces blockIndex codedLength systematic withFiller
   word-coded r l =
       record {
-        systematic = ap (take (places R b)) (word-is r)
+        systematic = ap (take (places R ed b)) (word-is r)
             ∙ ap (λ (n : ℕ). take n (coded (table R i) (rows R) (columns R) (z R i) (sys r))) (cut .product)
             ∙ coded-take (table R i) (rows R) (columns R) (z R i) (sys r) (kb R) (sys-size r l);
         long = ap length (word-is r) ∙ coded-length (table R i) (rows R) (columns R) (z R i) (sys r) (kb R) (sys-size r l) (columns-is R)
@@ -121,8 +149,8 @@ module _ (R block : List ℕ) (taken : planNumber R (length block) ≡ 0) where
             ∙ coded-checks (table R i) (rows R) (columns R) (z R i) (sys r) (kb R) (sys-size r l) stairs;
       }
 
-  -- a word of the own bits is the coded block
-  word-only : (r : ℕ) (w : List ℕ) → r < c → Word R (length block) (own R b u r) w → w ≡ word r
+  -- a word of what is carried is the coded block
+  word-only : (r : ℕ) (w : List ℕ) → r < c → Word R ed (length block) (load r) w → w ≡ word r
   unfolding blockPlaces blockIndex codedLength systematic withFiller
   word-only r w l h =
       let front : take (kb R * z R i) w ≡ sys r =
@@ -131,71 +159,86 @@ module _ (R block : List ℕ) (taken : planNumber R (length block) ≡ 0) where
       (h .long ∙ omega (arith, cut .product, ap (λ (n : ℕ). n * z R i) (columns-is R), add-mul (kb R) (rows R) (z R i))) front (λ p k. h .parity p (omega (arith, cut .product))) (h .checked)
       ∙ sym (word-is r)
 
-  -- ---- the radio bits
+-- ---- the radio bits
 
-  module _ (terms : Terms) (g : ℕ) (given : Allocated terms g (blocks R (blockBits (length block)))) where
-    abbrev e : ℕ → ℕ
-    e = blockShare R (length block) terms g
+module _ (R block : List ℕ) (terms : Terms) (taken : planNumber R (terms .edition) (length block) ≡ 0) (g : ℕ)
+    (given : Allocated terms g (blocks R (terms .edition) (blockBits (length block)))) where
+  abbrev ed : ℕ
+  ed = terms .edition
 
-    abbrev start : ℕ
-    start = blockStart R (length block) terms
+  abbrev bits-of : List ℕ
+  bits-of = radioBits R (blockBits (length block)) (transport block) terms g
 
-    f : ℕ → List ℕ
-    f r = matched (turned start (word r)) (e r)
+  abbrev count : ℕ
+  count = blocks R ed (blockBits (length block))
 
-    share-is : (r : ℕ) → share terms g c r .0 ≡ e r
-    unfolding share spare codedBitsOf symbolPlaces symbolPlacesOf allPlaces blockShare blockCount
-    share-is r = refl
+  abbrev e : ℕ → ℕ
+  e = blockShare R (length block) terms g
 
-    block-is : (r : ℕ) → r < c → blockSent R b u terms g r ≡ f r
-    unfolding f blockSent matchedFrom startOf blockStart
-    block-is r l =
-        ap₂ (λ (d n : ℕ). matched (turned (cond (eqb (kind R) 2) (d / 4 * terms .rv) 0) (word r)) n) (word-coded r l .long) (share-is r)
+  abbrev start : ℕ
+  start = blockStart R (length block) terms
 
-    f-size : (r : ℕ) → length (f r) ≡ e r
-    unfolding f
-    f-size r = matched-length (turned start (word r)) (e r)
+  f : ℕ → List ℕ
+  f r = matched (turned start (word R ed block taken r)) (e r)
 
-    f-joined : (n : ℕ) → length (joined n f) ≡ sumBelow n e
-    f-joined n = length-joined f n ∙ sum-same n (λ r. length (f r)) e (λ r l. f-size r)
+  share-is : (r : ℕ) → share terms g count r .0 ≡ e r
+  unfolding share spare codedBitsOf symbolPlaces symbolPlacesOf allPlaces blockShare blockCount
+  share-is r = refl
 
-    shares : sumBelow c e ≡ g
-    shares = sum-same c e (λ r. share terms g c r .0) (λ r l. sym (share-is r)) ∙ shares-all terms g c given
+  block-is : (r : ℕ) → r < count → blockSent R (blockBits (length block)) (transport block) terms g r ≡ f r
+  unfolding f blockSent matchedFrom startOf blockStart
+  block-is r l =
+      ap₂ (λ (d n : ℕ). matched (turned (cond (eqb (kind R) 2) (d / 4 * terms .rv) 0) (word R ed block taken r)) n) (word-coded R ed block taken r l .long) (share-is r)
 
-    sent-is : radioBits R b u terms g ≡ joined c f
-    unfolding radioBits
-    sent-is = joined-same (blockSent R b u terms g) f c block-is
+  f-size : (r : ℕ) → length (f r) ≡ e r
+  unfolding f
+  f-size r = matched-length (turned start (word R ed block taken r)) (e r)
 
-    block-stretch : (r : ℕ) → r < c → take (e r) (drop (sumBelow r e) (radioBits R b u terms g)) ≡ f r
-    block-stretch r l =
-        ap (λ (s : List ℕ). take (e r) (drop (sumBelow r e) s)) sent-is
-        ∙ ap₂ (λ (x y : ℕ). take x (drop y (joined c f))) (sym (f-size r)) (sym (f-joined r)) ∙ joined-stretch f c r l
+  f-joined : (n : ℕ) → length (joined n f) ≡ sumBelow n e
+  f-joined n = length-joined f n ∙ sum-same n (λ r. length (f r)) e (λ r l. f-size r)
 
-    pub steps : Steps R block terms g (radioBits R b u terms g)
-    unfolding blockCount blockBits transport attached mine ownStart f
-    steps =
-        record {
-          transport = transport block;
-          appended = refl;
-          transported = size;
-          carried = own-size;
-          together = own-together;
-          word = word;
-          coded = word-coded;
-          stretch = block-stretch;
-          all = shares;
-          long = sent-length R b u terms g given;
-          single = sent-bits R b u terms g (transport-bits block);
-        }
+  shares : sumBelow count e ≡ g
+  shares = sum-same count e (λ r. share terms g count r .0) (λ r l. sym (share-is r)) ∙ shares-all terms g count given
 
-    -- ---- no other bits do
+  sent-is : bits-of ≡ joined count f
+  unfolding radioBits
+  sent-is = joined-same (blockSent R (blockBits (length block)) (transport block) terms g) f count block-is
 
-    pub steps-only : (bits : List ℕ) → Steps R block terms g bits → bits ≡ radioBits R b u terms g
-    unfolding blockCount transport attached f
-    steps-only bits s =
-        let own-word : (r : ℕ) → r < c → s .word r ≡ word r =
-        λ r l. word-only r (s .word r) l (subst (λ (v : List ℕ). Word R (length block) (own R b v r) (s .word r)) (s .appended) (s .coded r l)) in
-        let each : (r : ℕ) → r < c → take (e r) (drop (sumBelow r e) bits) ≡ f r =
-        λ r l. s .stretch r l ∙ ap (λ (w : List ℕ). matched (turned start w) (e r)) (own-word r l) in
-        sym (take-all (sumBelow c e) bits (omega (arith, s .long, shares))) ∙ sym (joined-cut e bits c)
-        ∙ joined-same (λ r. take (e r) (drop (sumBelow r e) bits)) f c each ∙ sym sent-is
+  block-stretch : (r : ℕ) → r < count → take (e r) (drop (sumBelow r e) bits-of) ≡ f r
+  block-stretch r l =
+      ap (λ (s : List ℕ). take (e r) (drop (sumBelow r e) s)) sent-is
+      ∙ ap₂ (λ (x y : ℕ). take x (drop y (joined count f))) (sym (f-size r)) (sym (f-joined r)) ∙ joined-stretch f count r l
+
+  pub steps : Steps R block terms g (radioBits R (blockBits (length block)) (transport block) terms g)
+  unfolding blockCount blockBits transport attached mine ownStart f
+  steps =
+      record {
+        transport = transport block;
+        appended = refl;
+        transported = size R ed block taken;
+        cut = own-size R ed block taken;
+        together = own-together R ed block taken;
+        load = load R ed block taken;
+        carried = λ r l. load-carries R ed block taken r;
+        word = word R ed block taken;
+        coded = word-coded R ed block taken;
+        stretch = block-stretch;
+        all = shares;
+        long = sent-length R (blockBits (length block)) (transport block) terms g given;
+        single = sent-bits R (blockBits (length block)) (transport block) terms g (transport-bits block);
+      }
+
+  -- ---- no other bits do
+
+  pub steps-only : (bits : List ℕ) → Steps R block terms g bits → bits ≡ radioBits R (blockBits (length block)) (transport block) terms g
+  unfolding blockCount transport attached f
+  steps-only bits s =
+      let own-load : (r : ℕ) → r < count → s .load r ≡ load R ed block taken r =
+      λ r l. load-only R ed block taken r (s .load r)
+      (subst (λ (v : List ℕ). Carries R ed (length block) (own R ed (blockBits (length block)) v r) (s .load r)) (s .appended) (s .carried r l)) in
+      let own-word : (r : ℕ) → r < count → s .word r ≡ word R ed block taken r =
+      λ r l. word-only R ed block taken r (s .word r) l (subst (λ (v : List ℕ). Word R ed (length block) v (s .word r)) (own-load r l) (s .coded r l)) in
+      let each : (r : ℕ) → r < count → take (e r) (drop (sumBelow r e) bits) ≡ f r =
+      λ r l. s .stretch r l ∙ ap (λ (w : List ℕ). matched (turned start w) (e r)) (own-word r l) in
+      sym (take-all (sumBelow count e) bits (omega (arith, s .long, shares))) ∙ sym (joined-cut e bits count)
+      ∙ joined-same (λ r. take (e r) (drop (sumBelow r e) bits)) f count each ∙ sym sent-is

@@ -19,7 +19,7 @@ use Rattle.profile.specs.Record.{x, kind}
 use Rattle.profile.specs.Promises.{judged}
 use Rattle.profile.proofs.Accepted.{accepted}
 use Rattle.profile.proofs.Answers.{judged-passed}
-use Rattle.cutting.specs.Plan.{blocks}
+use Rattle.cutting.specs.Plan.{otherEdition, blocks}
 use Rattle.matching.specs.Matching.{matched, turned, startOf, matchedFrom, misversioned}
 use Rattle.matching.proofs.Start.{start-two, start-one, start-within}
 use Rattle.matching.proofs.Turned.{turned-zero}
@@ -61,63 +61,64 @@ one-plain R e one = accepted R e .plain one
 
 -- ---- "Demands 2 and 3 hold for each rv, receiver and sender using the same one"
 
-abbrev pub termsOf : ℕ → ℕ → ℕ → Terms
-termsOf nl qm rv = record { nl = nl; qm = qm; rv = rv }
+abbrev pub termsOf : ℕ → ℕ → ℕ → ℕ → Terms
+termsOf nl qm ed rv = record { nl = nl; qm = qm; rv = rv; edition = ed }
 
 -- an allocation has room whatever the version, so it is asked for with rv 0 only
-pub room-for-each : {R : List ℕ} {octets nl qm g : ℕ} → kind R ≡ 2 → Roomy R octets (termsOf nl qm 0) g → (rv : ℕ) → rv ≤ 3
-    → Roomy R octets (termsOf nl qm rv) g
+pub room-for-each : {R : List ℕ} {octets nl qm ed g : ℕ} → kind R ≡ 2 → Roomy R octets (termsOf nl qm ed 0) g → (rv : ℕ) → rv ≤ 3
+    → Roomy R octets (termsOf nl qm ed rv) g
 unfolding misallocated usable placeBits tooFewPlaces symbolPlaces symbolPlacesOf someWithoutRoom share spare codedBitsOf ceil
 room-for-each {R} two h rv low =
     record { taken = h .taken; version = version-2 (kind R) rv two low; allocation = h .allocation; enough = h .enough; room = h .room }
 
-module _ {R : List ℕ} {nl qm g : ℕ} (two : kind R ≡ 2) (rv : ℕ) (low : rv ≤ 3) where
+module _ {R : List ℕ} {nl qm ed g : ℕ} (two : kind R ≡ 2) (rv : ℕ) (low : rv ≤ 3) where
   -- every block is sent
-  pub each-sent : (block : List ℕ) {out : List ℕ} {r : Written} {o : List ℕ} → Roomy R (length block) (termsOf nl qm 0) g → g ≤ length out
-      → Sent R block (termsOf nl qm rv) g out r o → (r .number ≡ 0) × (r .count ≡ g)
+  pub each-sent : (block : List ℕ) {out : List ℕ} {r : Written} {o : List ℕ} → Roomy R (length block) (termsOf nl qm ed 0) g → g ≤ length out
+      → Sent R block (termsOf nl qm ed rv) g out r o → (r .number ≡ 0) × (r .count ≡ g)
   each-sent block h room s = demand3.sent block (room-for-each two h rv low) room s
 
   -- "Sending gives bit for bit what 5G.212 v2.3 defines": what is written follows the six steps from the start of this version, and no other bits do
-  pub each-follows : (block : List ℕ) {out : List ℕ} {r : Written} {o : List ℕ} → Roomy R (length block) (termsOf nl qm 0) g → g ≤ length out
-      → Sent R block (termsOf nl qm rv) g out r o
-      → (Steps R block (termsOf nl qm rv) g (take g o)) × ((bits : List ℕ) → Steps R block (termsOf nl qm rv) g bits → bits ≡ take g o)
+  pub each-follows : (block : List ℕ) {out : List ℕ} {r : Written} {o : List ℕ} → Roomy R (length block) (termsOf nl qm ed 0) g → g ≤ length out
+      → Sent R block (termsOf nl qm ed rv) g out r o
+      → (Steps R block (termsOf nl qm ed rv) g (take g o)) × ((bits : List ℕ) → Steps R block (termsOf nl qm ed rv) g bits → bits ≡ take g o)
   each-follows block h room s =
       let done = each-sent block h room s .0 in
       (sends s done .1, sends-only s done)
 
   -- "Two different transport blocks are never sent as the same bits"
   pub each-apart : {block block' out : List ℕ} {r : Written} {o out' : List ℕ} {r' : Written} {o' : List ℕ}
-      → Roomy R (length block) (termsOf nl qm 0) g → AreOctets block → AreOctets block' → length block ≡ length block'
-      → g ≤ length out → Sent R block (termsOf nl qm rv) g out r o → g ≤ length out' → Sent R block' (termsOf nl qm rv) g out' r' o'
+      → Roomy R (length block) (termsOf nl qm ed 0) g → AreOctets block → AreOctets block' → length block ≡ length block'
+      → g ≤ length out → Sent R block (termsOf nl qm ed rv) g out r o → g ≤ length out' → Sent R block' (termsOf nl qm ed rv) g out' r' o'
       → take g o ≡ take g o' → block ≡ block'
   each-apart h whole whole' size room s room' s' e = demand3.apart (room-for-each two h rv low) whole whole' size room s room' s' e
 
   -- "receiving the sent bits returns the block"
   pub each-returns : {block out : List ℕ} {r : Written} {o buf : List ℕ} {r' : Written} {buf' : List ℕ}
-      → Roomy R (length block) (termsOf nl qm 0) g → AreOctets block → length block ≤ length buf
-      → g ≤ length out → Sent R block (termsOf nl qm rv) g out r o → Received R (8 * length block) (termsOf nl qm rv) (take g o) buf r' buf'
+      → Roomy R (length block) (termsOf nl qm ed 0) g → AreOctets block → length block ≤ length buf
+      → g ≤ length out → Sent R block (termsOf nl qm ed rv) g out r o → Received R (8 * length block) (termsOf nl qm ed rv) (take g o) buf r' buf'
       → (r' .number ≡ 0) × (r' .count ≡ length block) × (take (length block) buf' ≡ block) × (buf' ≡ block ++ drop (length block) buf)
   each-returns h whole fits room s v = demand3.returns (room-for-each two h rv low) whole fits room s v
 
 -- "and received noughts and ones, as many as the allocation gives, are refused as unsent exactly when no transport block of that length is sent as
 -- them, sending being that of the second demand"
-pub each-exactly : {R : List ℕ} {nl qm octets : ℕ} → kind R ≡ 2 → (rv : ℕ) → rv ≤ 3 → {bits buf : List ℕ} {r : Written} {buf' : List ℕ}
-    → Roomy R octets (termsOf nl qm 0) (length bits) → AreBits bits → octets ≤ length buf → Received R (8 * octets) (termsOf nl qm rv) bits buf r buf'
-    → (r .number ≡ 14 → NoneSentAs (λ block out r out'. Sent R block (termsOf nl qm rv) (length bits) out r out') octets bits)
-    × (NoneSentAs (λ block out r out'. Sent R block (termsOf nl qm rv) (length bits) out r out') octets bits → r .number ≡ 14)
+pub each-exactly : {R : List ℕ} {nl qm ed octets : ℕ} → kind R ≡ 2 → (rv : ℕ) → rv ≤ 3 → {bits buf : List ℕ} {r : Written} {buf' : List ℕ}
+    → Roomy R octets (termsOf nl qm ed 0) (length bits) → AreBits bits → octets ≤ length buf → Received R (8 * octets) (termsOf nl qm ed rv) bits buf r buf'
+    → (r .number ≡ 14 → NoneSentAs (λ block out r out'. Sent R block (termsOf nl qm ed rv) (length bits) out r out') octets bits)
+    × (NoneSentAs (λ block out r out'. Sent R block (termsOf nl qm ed rv) (length bits) out r out') octets bits → r .number ≡ 14)
 each-exactly two rv low h single fits v = demand3.exactly (room-for-each two h rv low) single fits v
 
--- ---- "16, between 7 and 8, for an rv over 3 or against the type": for a profile that 5 and 6 accept and a length that 7 does, whatever else is wrong
+-- ---- "16, between 7 and 8, for an rv over 3 or against the type": for a profile that 5 and 6 accept, an edition that 19 does and a length that 7 does, whatever
+-- else is wrong
 
 right-length : (octets : ℕ) → 1 ≤ octets → octets ≤ 2048 → within 1 2048 octets ≡ true
 right-length octets some most = rw (le-leb 1 octets some, le-leb octets 2048 most)
 
 module _ {R : List ℕ} (taken : judged R ≡ 0) where
   module _ {block : List ℕ} {terms : Terms} {g : ℕ} {out : List ℕ} {r : Written} {o : List ℕ} (s : Sent R block terms g out r o)
-      (some : 1 ≤ length block) (most : length block ≤ 2048) where
+      (known : otherEdition (terms .edition) ≡ false) (some : 1 ≤ length block) (most : length block ≤ 2048) where
     send-sixteen : misversioned (kind R) (terms .rv) ≡ true → r .number ≡ 16
     unfolding sendNumber
-    send-sixteen e = s .number ∙ judged-passed R _ taken ∙ passes 7 _ (ap not (right-length (length block) some most)) ∙ applies 16 _ e
+    send-sixteen e = s .number ∙ judged-passed R _ taken ∙ passes 19 _ known ∙ passes 7 _ (ap not (right-length (length block) some most)) ∙ applies 16 _ e
 
     -- "Type 1 requires rv 0"
     pub send-one : kind R ≡ 1 → (terms .rv ≡ 0 → ⊥) → r .number ≡ 16
@@ -128,7 +129,7 @@ module _ {R : List ℕ} (taken : judged R ≡ 0) where
     send-over over = send-sixteen (over-3 (kind R) (terms .rv) over)
 
   module _ {octets : ℕ} {terms : Terms} {bits out : List ℕ} {r : Written} {o : List ℕ} (v : Received R (8 * octets) terms bits out r o)
-      (some : 1 ≤ octets) (most : octets ≤ 2048) where
+      (known : otherEdition (terms .edition) ≡ false) (some : 1 ≤ octets) (most : octets ≤ 2048) where
     right-octets : notOctets (8 * octets) ≡ false
     unfolding notOctets
     right-octets =
@@ -138,7 +139,7 @@ module _ {R : List ℕ} (taken : judged R ≡ 0) where
 
     receive-sixteen : misversioned (kind R) (terms .rv) ≡ true → r .number ≡ 16
     unfolding receiveNumber
-    receive-sixteen e = v .number ∙ judged-passed R _ taken ∙ passes 7 _ right-octets ∙ applies 16 _ e
+    receive-sixteen e = v .number ∙ judged-passed R _ taken ∙ passes 19 _ known ∙ passes 7 _ right-octets ∙ applies 16 _ e
 
     pub receive-one : kind R ≡ 1 → (terms .rv ≡ 0 → ⊥) → r .number ≡ 16
     receive-one one other = receive-sixteen (against-1 (kind R) (terms .rv) one other)
@@ -166,14 +167,14 @@ one-as-before rv w e = ap (λ (l : List ℕ). matched l e) (turned-zero w)
 
 -- so the blocks of a transport block are sent as they were
 module _ (R : List ℕ) (b : ℕ) (bits : List ℕ) (terms : Terms) (g r : ℕ) where
-  pub block-zero : terms .rv ≡ 0 → blockSent R b bits terms g r ≡ matched (codedBlock R b bits r) (share terms g (blocks R b) r .0)
+  pub block-zero : terms .rv ≡ 0 → blockSent R b bits terms g r ≡ matched (codedBlock R (terms .edition) b bits r) (share terms g (blocks R (terms .edition) b) r .0)
   unfolding blockSent
   block-zero e =
-      ap (λ (v : ℕ). matchedFrom (kind R) v (codedBlock R b bits r) (share terms g (blocks R b) r .0)) e
-      ∙ zero-as-before (kind R) (codedBlock R b bits r) (share terms g (blocks R b) r .0)
+      ap (λ (v : ℕ). matchedFrom (kind R) v (codedBlock R (terms .edition) b bits r) (share terms g (blocks R (terms .edition) b) r .0)) e
+      ∙ zero-as-before (kind R) (codedBlock R (terms .edition) b bits r) (share terms g (blocks R (terms .edition) b) r .0)
 
-  pub block-one : kind R ≡ 1 → blockSent R b bits terms g r ≡ matched (codedBlock R b bits r) (share terms g (blocks R b) r .0)
+  pub block-one : kind R ≡ 1 → blockSent R b bits terms g r ≡ matched (codedBlock R (terms .edition) b bits r) (share terms g (blocks R (terms .edition) b) r .0)
   unfolding blockSent
   block-one e =
-      ap (λ (k : ℕ). matchedFrom k (terms .rv) (codedBlock R b bits r) (share terms g (blocks R b) r .0)) e
-      ∙ one-as-before (terms .rv) (codedBlock R b bits r) (share terms g (blocks R b) r .0)
+      ap (λ (k : ℕ). matchedFrom k (terms .rv) (codedBlock R (terms .edition) b bits r) (share terms g (blocks R (terms .edition) b) r .0)) e
+      ∙ one-as-before (terms .rv) (codedBlock R (terms .edition) b bits r) (share terms g (blocks R (terms .edition) b) r .0)

@@ -15,17 +15,19 @@ use Rattle.parity.specs.Promises.{tableFor, codeConditions}
 use Rattle.coding.specs.Promises.{sendConditions}
 use Rattle.shelf.specs.Lookup.{lookupConditions, lookupRecord}
 
--- "It must check with filler read as 0": block r has parity bits with which it does. R is the profile's record, b is B, bits the transport bits.
-unfoldable pub blockHasParity : List ℕ → ℕ → List ℕ → ℕ → Bool
-blockHasParity R b bits r = hasParity (table R (sizeIndex R b)) (rows R) (columns R) (z R (sizeIndex R b)) (systematic R b bits r)
+-- "It must check with filler read as 0": block r has parity bits with which it does. R is the profile's record, ed the edition, b is B, bits
+-- the transport bits.
+unfoldable pub blockHasParity : List ℕ → ℕ → ℕ → List ℕ → ℕ → Bool
+blockHasParity R ed b bits r = hasParity (table R (sizeIndex R ed b)) (rows R) (columns R) (z R (sizeIndex R ed b)) (systematic R ed b bits r)
 
 -- 15: "some block has no parity bits with which it checks (step 4)"
-unfoldable pub someWithoutParity : List ℕ → List ℕ → Bool
-someWithoutParity R block = anyBelow (blocks R (blockBits (length block))) (λ r. not (blockHasParity R (blockBits (length block)) (transport block) r))
+unfoldable pub someWithoutParity : List ℕ → ℕ → List ℕ → Bool
+someWithoutParity R ed block =
+    anyBelow (blocks R ed (blockBits (length block))) (λ r. not (blockHasParity R ed (blockBits (length block)) (transport block) r))
 
 -- "5 to 11 and 15 to sending"
 abbrev pub sendWithFifteen : List ℕ → List ℕ → Terms → ℕ → ℕ → List (ℕ × Bool)
-sendWithFifteen R block terms g lent = sendConditions R block terms g lent ++ ((15, someWithoutParity R block) ∷ [])
+sendWithFifteen R block terms g lent = sendConditions R block terms g lent ++ ((15, someWithoutParity R (terms .edition) block) ∷ [])
 
 -- "The hosted sending and receiving calls do a lookup first": t is the tenant and p the profile number
 abbrev pub hostedWithFifteen : List ℕ → List ℕ → ℕ → ℕ → List ℕ → Terms → ℕ → ℕ → List (ℕ × Bool)

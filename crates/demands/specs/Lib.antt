@@ -3,3 +3,4 @@ pub mod Outputs
 pub mod Steps
 pub mod Worked
 pub mod Fifteen
+pub mod EditionOne

@@ -1,14 +1,16 @@
--- The cases marked P of document 01, "Small profile and worked numbers", and those of CR 1, in one table, and in a second cases of our own
--- for CR 3: what the definitions compute, and what is due.
+-- The cases marked P of document 01, "Small profile and worked numbers", and those of CR 1, in one table, in a second cases of our own for CR 3, and in a third
+-- those of CR 8: what the definitions compute, and what is due.
+use mathlib.Core.Bool.{cond}
 use mathlib.Core.List.{List, [], _∷_, _++_}
-use Prim.Native.Nat.{ℕ}
+use Prim.Native.Nat.{ℕ, _-_}
 use lib.ListN.{take, replicate}
 use Rattle.bits.specs.Bits.{unpacked}
 use Rattle.bits.specs.Ranges.{listBelow}
 use Rattle.bits.specs.declared.count.Terms.{Terms}
 use Rattle.checksum.specs.Crc.{checksum, gen24A, gen16, gen8}
 use Rattle.profile.specs.Record.{kind, z, rows, columns, table}
-use Rattle.cutting.specs.Plan.{blockBits, blocks}
+use Rattle.blocksum.specs.Blocksum.{gen24B}
+use Rattle.cutting.specs.Plan.{blockBits, sumBits, blocks, tooManyBlocks, ownBits, places, filler}
 use Rattle.cutting.specs.Transport.{transport}
 use Rattle.parity.specs.Coded.{coded}
 use Rattle.matching.specs.Matching.{matchedFrom}
@@ -47,18 +49,19 @@ c0With126 =
 unfoldable pub toyWord : List ℕ → List ℕ
 toyWord places = coded (table toy 0) (rows toy) (columns toy) (z toy 0) places
 
--- "N_L 1, Q_m 2", and "Type 1 requires rv 0"
+-- "N_L 1, Q_m 2", "Type 1 requires rv 0", and "Edition 1 stays as it is"
 abbrev pub toyTerms : Terms
-toyTerms = record { nl = 1; qm = 2; rv = 0 }
+toyTerms = record { nl = 1; qm = 2; rv = 0; edition = 1 }
 
--- the transport bits of one octet: B, C, each block's share, and the bits that they are sent as
-unfoldable pub sentWith : List ℕ → Terms → List ℕ → ℕ → List ℕ
-sentWith R terms bits g =
-    blockBits 1 ∷ blocks R (blockBits 1) ∷ listBelow (blocks R (blockBits 1)) (λ r. share terms g (blocks R (blockBits 1)) r .0)
-    ++ radioBits R (blockBits 1) bits terms g
+-- the transport bits of so many octets: B, C, each block's share, and the bits that they are sent as
+unfoldable pub sentWith : List ℕ → Terms → ℕ → List ℕ → ℕ → List ℕ
+sentWith R terms octets bits g =
+    let b = blockBits octets in
+    let c = blocks R (terms .edition) b in
+    b ∷ c ∷ listBelow c (λ r. share terms g c r .0) ++ radioBits R b bits terms g
 
 abbrev pub toySent : List ℕ → ℕ → List ℕ
-toySent bits g = sentWith toy toyTerms bits g
+toySent bits g = sentWith toy toyTerms 1 bits g
 
 pub record Case : Type 0 where
   pub computed : List ℕ
@@ -116,7 +119,7 @@ typeTwoMatched rv = matchedFrom (kind typeTwo) rv (typeTwoWord lastPlaces) 16
 
 -- N_L 1, Q_m 2, G 176
 unfoldable pub typeTwoSent : List ℕ → ℕ → List ℕ
-typeTwoSent bits rv = sentWith typeTwo (record { nl = 1; qm = 2; rv = rv }) bits 176
+typeTwoSent bits rv = sentWith typeTwo (record { nl = 1; qm = 2; rv = rv; edition = 1 }) 1 bits 176
 
 -- octet A5 for each rv, packed into octets; its last block has the places above
 unfoldable pub a5With0 : List ℕ
@@ -154,7 +157,79 @@ versions =
     ∷ record { computed = typeTwoSent (transport (0xA5 ∷ [])) 3; due = 32 ∷ 11 ∷ replicate 11 16 ++ unpacked a5With3 }
     ∷ []
 
--- ---- the columns of both tables
+-- ---- editions (document 02, CR 8)
+
+-- kb 20, m 3 and one z of 2: for j below 20 row 0 holds j mod 2, row 1 floor(j/2) mod 2, row 2 0 where j is odd; then the toy's staircase. Kmax is 40.
+unfoldable pub twenty : List ℕ
+twenty =
+    0x00 ∷ 0x14 ∷ 0x00 ∷ 0x03 ∷ 0x00 ∷ 0x00 ∷ 0x00 ∷ 0x01 ∷ 0x00 ∷ 0x01 ∷ 0x00 ∷ 0x02 ∷ 0x00 ∷ 0x0E
+    ∷ 0x00 ∷ 0x01 ∷ 0x00 ∷ 0x01 ∷ 0x00 ∷ 0x01 ∷ 0x00 ∷ 0x01 ∷ 0x00 ∷ 0x01 ∷ 0x00 ∷ 0x01 ∷ 0x00 ∷ 0x01 ∷ 0x00 ∷ 0x01 ∷ 0x00 ∷ 0x01 ∷ 0x00 ∷ 0x01 ∷ 0x01 ∷ 0x00 ∷ 0xFF
+    ∷ 0x00 ∷ 0x00 ∷ 0x01 ∷ 0x01 ∷ 0x00 ∷ 0x00 ∷ 0x01 ∷ 0x01 ∷ 0x00 ∷ 0x00 ∷ 0x01 ∷ 0x01 ∷ 0x00 ∷ 0x00 ∷ 0x01 ∷ 0x01 ∷ 0x00 ∷ 0x00 ∷ 0x01 ∷ 0x01 ∷ 0x00 ∷ 0x00 ∷ 0x00
+    ∷ 0xFF ∷ 0x00 ∷ 0xFF ∷ 0x00 ∷ 0xFF ∷ 0x00 ∷ 0xFF ∷ 0x00 ∷ 0xFF ∷ 0x00 ∷ 0xFF ∷ 0x00 ∷ 0xFF ∷ 0x00 ∷ 0xFF ∷ 0x00 ∷ 0xFF ∷ 0x00 ∷ 0xFF ∷ 0x00 ∷ 0x01 ∷ 0xFF ∷ 0x00 ∷ []
+
+-- the header of a record with kb 12, m 3 and the sizes 27, 54 and 81, which is all that a plan counts with; Kmax is 972
+unfoldable pub twelve : List ℕ
+twelve = 0x00 ∷ 0x0C ∷ 0x00 ∷ 0x03 ∷ 0x00 ∷ 0x00 ∷ 0x00 ∷ 0x01 ∷ 0x00 ∷ 0x03 ∷ 0x00 ∷ 0x1B ∷ 0x00 ∷ 0x16 ∷ 0x00 ∷ 0x36 ∷ 0x00 ∷ 0x43 ∷ 0x00 ∷ 0x51 ∷ 0x00 ∷ 0x70 ∷ []
+
+-- and of the toy's with another z, which is Kmax
+unfoldable pub oneOf : ℕ → List ℕ
+oneOf z = 0x00 ∷ 0x01 ∷ 0x00 ∷ 0x03 ∷ 0x00 ∷ 0x00 ∷ 0x00 ∷ 0x01 ∷ 0x00 ∷ 0x01 ∷ 0x00 ∷ z ∷ 0x00 ∷ 0x0E ∷ []
+
+-- how so many octets are cut: B, C, K, L, and the own bits and filler of the first block and of the last
+unfoldable pub cutWith : List ℕ → ℕ → ℕ → List ℕ
+cutWith R ed octets =
+    let b = blockBits octets in
+    let c = blocks R ed b in
+    b ∷ c ∷ places R ed b ∷ sumBits R ed b ∷ ownBits b c 0 ∷ filler R ed b 0 ∷ ownBits b c (c - 1) ∷ filler R ed b (c - 1) ∷ []
+
+-- 1 where 9 applies, and 0 where it does not
+unfoldable pub tooManyWith : List ℕ → ℕ → ℕ → List ℕ
+tooManyWith R ed octets = cond (tooManyBlocks R ed (blockBits octets)) 1 0 ∷ []
+
+-- the ASCII digits 1 to 9
+unfoldable pub nineDigits : List ℕ
+nineDigits = 0x31 ∷ 0x32 ∷ 0x33 ∷ 0x34 ∷ 0x35 ∷ 0x36 ∷ 0x37 ∷ 0x38 ∷ 0x39 ∷ []
+
+-- N_L 1, Q_m 2, G 138
+unfoldable pub twentySent : List ℕ → ℕ → List ℕ
+twentySent bits ed = sentWith twenty (record { nl = 1; qm = 2; rv = 0; edition = ed }) 3 bits 138
+
+-- octets 01 02 03 in either edition, packed into octets
+unfoldable pub threeWith1 : List ℕ
+threeWith1 = 0x01 ∷ 0x02 ∷ 0x03 ∷ 0x00 ∷ 0x04 ∷ 0x08 ∷ 0x0C ∷ 0x00 ∷ 0x11 ∷ 0x0A ∷ 0x3A ∷ 0xC6 ∷ 0xB4 ∷ 0x28 ∷ 0xEB ∷ 0x1A ∷ 0xD0 ∷ 0x80 ∷ []
+
+unfoldable pub threeWith2 : List ℕ
+threeWith2 = 0x01 ∷ 0x02 ∷ 0x00 ∷ 0x42 ∷ 0x84 ∷ 0x90 ∷ 0x0D ∷ 0x08 ∷ 0x03 ∷ 0x58 ∷ 0x11 ∷ 0x48 ∷ 0xEB ∷ 0x12 ∷ 0x2B ∷ 0x12 ∷ 0x29 ∷ 0xC0 ∷ []
+
+unfoldable pub editions : List Case
+editions =
+    -- 24B of "123456789" and of the single bit 1
+    record { computed = checksum 24 gen24B (unpacked nineDigits) ∷ []; due = 0x23EF52 ∷ [] }
+    ∷ record { computed = checksum 24 gen24B (1 ∷ []) ∷ []; due = 0x800063 ∷ [] }
+    -- 118 octets fill one block of Kmax 972 up to 4 places, so both editions have one block and no checksum
+    ∷ record { computed = cutWith twelve 1 118; due = 968 ∷ 1 ∷ 972 ∷ 0 ∷ 968 ∷ 4 ∷ 968 ∷ 4 ∷ [] }
+    ∷ record { computed = cutWith twelve 2 118; due = 968 ∷ 1 ∷ 972 ∷ 0 ∷ 968 ∷ 4 ∷ 968 ∷ 4 ∷ [] }
+    -- 119 octets are two blocks: 488 own bits and 24 more, for which K 648 is the smallest
+    ∷ record { computed = cutWith twelve 2 119; due = 976 ∷ 2 ∷ 648 ∷ 24 ∷ 488 ∷ 136 ∷ 488 ∷ 136 ∷ [] }
+    -- 2,048 octets are 18: ten of 912 own bits and eight of 911
+    ∷ record { computed = cutWith twelve 2 2048; due = 16408 ∷ 18 ∷ 972 ∷ 24 ∷ 912 ∷ 36 ∷ 911 ∷ 37 ∷ [] }
+    -- "9 also in edition 2 where B > Kmax and Kmax ≤ 24": one octet with Kmax 25 is 32 blocks of one own bit each; with 24, and with the toy's 2, it is 9
+    ∷ record { computed = cutWith (oneOf 25) 2 1; due = 32 ∷ 32 ∷ 25 ∷ 24 ∷ 1 ∷ 0 ∷ 1 ∷ 0 ∷ [] }
+    ∷ record { computed = tooManyWith (oneOf 25) 2 1; due = 0 ∷ [] }
+    ∷ record { computed = tooManyWith (oneOf 24) 2 1; due = 1 ∷ [] }
+    ∷ record { computed = tooManyWith toy 2 1; due = 1 ∷ [] }
+    -- 125 octets with Kmax 40 are 64 blocks, and 126 too many
+    ∷ record { computed = tooManyWith twenty 2 125; due = 0 ∷ [] }
+    ∷ record { computed = tooManyWith twenty 2 126; due = 1 ∷ [] }
+    -- octets 01 02 03: two blocks of 24 bits in edition 1, with a share of 70 and 68; three of 16 and 24 in edition 2, E = N = 46
+    ∷ record { computed = twentySent (transport (0x01 ∷ 0x02 ∷ 0x03 ∷ [])) 1; due = 48 ∷ 2 ∷ 70 ∷ 68 ∷ take 138 (unpacked threeWith1) }
+    ∷ record { computed = twentySent (transport (0x01 ∷ 0x02 ∷ 0x03 ∷ [])) 2; due = 48 ∷ 3 ∷ 46 ∷ 46 ∷ 46 ∷ take 138 (unpacked threeWith2) }
+    -- noughts are sent as noughts in both, so that nothing is said across two
+    ∷ record { computed = twentySent (transport (0x00 ∷ 0x00 ∷ 0x00 ∷ [])) 1; due = 48 ∷ 2 ∷ 70 ∷ 68 ∷ replicate 138 0 }
+    ∷ record { computed = twentySent (transport (0x00 ∷ 0x00 ∷ 0x00 ∷ [])) 2; due = 48 ∷ 3 ∷ 46 ∷ 46 ∷ 46 ∷ replicate 138 0 }
+    ∷ []
+
+-- ---- the columns of the tables
 
 abbrev pub computed : Case → List ℕ
 computed c = c .computed

@@ -39,10 +39,10 @@ fn overview(fd: i32) -> bool {
 
   kuambyte day       run the whole day on the shelves of the repository
   kuambyte lookup PRIVATE PUBLIC TENANT PROFILE > record
-  kuambyte send PRIVATE PUBLIC TENANT PROFILE LAYERS ORDER BITS [--rv N] [--text] < block > bits
-  kuambyte receive PRIVATE PUBLIC TENANT PROFILE OCTETS LAYERS ORDER [--rv N] [--plain] [--text] < bits > block
+  kuambyte send PRIVATE PUBLIC TENANT PROFILE LAYERS ORDER BITS [--rv N] [--edition N] [--text] < block > bits
+  kuambyte receive PRIVATE PUBLIC TENANT PROFILE OCTETS LAYERS ORDER [--rv N] [--edition N] [--plain] [--text] < bits > block
   kuambyte check PRIVATE PUBLIC TENANT PROFILE Z [--plain] [--text] < word   write whether a word checks, or the odd rows
-  kuambyte plan RECORD OCTETS [LAYERS ORDER]   write how a block of so many octets is cut
+  kuambyte plan RECORD OCTETS [LAYERS ORDER] [--edition N]   write how a block of so many octets is cut
   kuambyte numbers   write what each answered number means
   kuambyte replay    read requests, one to a line, and write an answer to each
   kuambyte help      write this help

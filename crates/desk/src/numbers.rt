@@ -26,10 +26,10 @@ fn write() -> i32 {
     let b = rows(&mut page, a);
     let c = page::put(
         b"
-1 to 4 belong to the lookup, 5 to 11 and 16 to sending, 5 to 14 and 16 to receiving, 15 to no call. Checking a word answers 5,
-6, 8 for a z or a length that the profile does not have, and 12. Numbers are tested in their order, 16 between 7 and 8; the
-first that applies is answered, and it is the exit status. Other statuses: 64 wrong words, 74 a file that cannot be read or a
-write that failed.
+1 to 4 belong to the lookup, 5 to 11, 16 and 19 to sending, 5 to 14, 16 and 19 to receiving, 15 to no call. Checking a word
+answers 5, 6, 8 for a z or a length that the profile does not have, and 12. Numbers are tested in their order, but 19 before 7
+and 16 before 8; the first that applies is answered, and it is the exit status. Other statuses: 64 wrong words, 74 a file that
+cannot be read or a write that failed.
 ",
         &mut page,
         b,

@@ -22,8 +22,8 @@ pub fn run(words: Words) -> i32 {
     if words.help {
         return say(words, b"");
     }
-    if argv::has_other(b"") {
-        return say(words, b"this command takes no options");
+    if argv::has_other(b"--edition\n") {
+        return say(words, b"this command takes no option but --edition");
     }
     let count = words.count;
     match count {
@@ -36,16 +36,17 @@ fn say(words: Words, why: &[u8]) -> i32 {
     help::say(
         words.help,
         why,
-        b"usage: kuambyte plan RECORD OCTETS [LAYERS ORDER]
+        b"usage: kuambyte plan RECORD OCTETS [LAYERS ORDER] [--edition N]
 
 Writes how a transport block of OCTETS octets is cut: B, C, z and K, each code block's own bits, filler and N, the least G with
-which every code block has room for all its coded bits, and the blocks' shares of that G; with a profile of Type 2 also the
-places of a code block from which its redundancy versions are sent.
+which every code block has room for all its coded bits, and the blocks' shares of that G; where code blocks carry a checksum
+each, also its bits, and with a profile of Type 2 the places of a code block from which its redundancy versions are sent.
 
-  RECORD   a file with a profile record, as kuambyte lookup writes it
-  OCTETS   A/8, the octets of the block: 1 to 2048
-  LAYERS   N_L, 1 to 4; 1 where it is not given
-  ORDER    Q_m, the bits of a symbol: 2, 4 or 6; 2 where it is not given
+  RECORD        a file with a profile record, as kuambyte lookup writes it
+  OCTETS        A/8, the octets of the block: 1 to 2048
+  LAYERS        N_L, 1 to 4; 1 where it is not given
+  ORDER         Q_m, the bits of a symbol: 2, 4 or 6; 2 where it is not given
+  --edition N   the edition, 1 or 2: in 2 each of several code blocks carries a checksum; 1 where it is not given
 ",
     )
 }
@@ -68,7 +69,7 @@ fn answer(record: &[u8], asked: Parameters) -> i32 {
     if is_refused(number) {
         return refusal::write(number, record, asked);
     }
-    let plan = cutting::plan_block(record, asked.octets);
+    let plan = cutting::plan_block(record, asked.terms.edition, asked.octets);
     if plan.number != DONE {
         return refusal::write(plan.number, record, asked);
     }
@@ -85,26 +86,40 @@ fn is_refused(number: u32) -> bool {
 }
 
 fn put(profile: &[u8], plan: Plan, asked: Parameters, page: &mut [u8]) -> usize
-    requires { ⌜ (plan .number ≡ 0) × (plan ≡ planned (now profile) (asked .octets)) ⌝ }
+    requires { ⌜ (plan .number ≡ 0) × (plan ≡ planned (now profile) (asked .terms .edition) (asked .octets)) ⌝ }
 {
-    let a = page::form(
-        b"B #  C #  z #  K #\n\nblock  own bits  filler     N\n",
-        &[plan.bits, plan.blocks, plan.z, plan.places],
-        page,
-        0,
-    );
-    let b = rows(profile, plan, asked.octets, page, a);
-    let c = starts(profile, plan, asked.octets, page, b);
+    let a = head(plan, page);
+    let b = rows(profile, plan, asked, page, a);
+    let c = starts(profile, plan, asked, page, b);
     foot(profile, asked, page, c)
 }
 
-fn rows(profile: &[u8], plan: Plan, octets: usize, page: &mut [u8], from: usize) -> usize
-    requires { ⌜ (plan .number ≡ 0) × (plan ≡ planned (now profile) octets) ⌝ }
+// Where code blocks carry no checksum, there is no column for it.
+fn head(plan: Plan, page: &mut [u8]) -> usize {
+    let numbers = [plan.bits, plan.blocks, plan.z, plan.places];
+    if plan.sums == 0 {
+        return page::form(
+            b"B #  C #  z #  K #\n\nblock  own bits  filler     N\n",
+            &numbers,
+            page,
+            0,
+        );
+    }
+    page::form(
+        b"B #  C #  z #  K #\n\nblock  own bits  checksum  filler     N\n",
+        &numbers,
+        page,
+        0,
+    )
+}
+
+fn rows(profile: &[u8], plan: Plan, asked: Parameters, page: &mut [u8], from: usize) -> usize
+    requires { ⌜ (plan .number ≡ 0) × (plan ≡ planned (now profile) (asked .terms .edition) (asked .octets)) ⌝ }
 {
     let mut at = from;
     let mut r = 0;
     while r < plan.blocks {
-        let part = part_of(profile, plan, octets, r);
+        let part = part_of(profile, plan, asked, r);
         at = row(r + 1, part, page, at);
         r += 1;
     }
@@ -114,21 +129,25 @@ fn rows(profile: &[u8], plan: Plan, octets: usize, page: &mut [u8], from: usize)
 // What one code block has of a transport block.
 pub struct Part {
     pub own: usize,
+    // L, the bits of its checksum, 0 where it carries none.
+    pub sums: usize,
     pub filler: usize,
     // N, the coded places less the filler.
     pub sendable: usize,
 }
 
 // Block r's part, counted from 0.
-fn part_of(profile: &[u8], plan: Plan, octets: usize, r: usize) -> Part
-    requires { ⌜ (plan .number ≡ 0) × (plan ≡ planned (now profile) octets) ⌝ }
-    ensures { λ p. ⌜ PartOf (now (profile .entry)) octets r p ⌝ }
+fn part_of(profile: &[u8], plan: Plan, asked: Parameters, r: usize) -> Part
+    requires { ⌜ (plan .number ≡ 0) × (plan ≡ planned (now profile) (asked .terms .edition) (asked .octets)) ⌝ }
+    ensures { λ p. ⌜ PartOf (now (profile .entry)) (asked .terms .edition) (asked .octets) r p ⌝ }
 {
     let own = cutting::inner::own_bits(plan.bits, plan.blocks, r);
-    let filler = plan.places - own;
+    let carried = own + plan.sums;
+    let filler = plan.places - carried;
     let sendable = coding::inner::sendable(profile, plan, r);
     Part {
         own,
+        sums: plan.sums,
         filler,
         sendable: sendable.0,
     }
@@ -137,14 +156,23 @@ fn part_of(profile: &[u8], plan: Plan, octets: usize, r: usize) -> Part
 fn row(number: usize, part: Part, page: &mut [u8], at: usize) -> usize {
     let a = page::right(number, 5, page, at);
     let b = page::right(part.own, 10, page, a);
-    let c = page::right(part.filler, 8, page, b);
-    let d = page::right(part.sendable, 6, page, c);
-    page::put(b"\n", page, d)
+    let c = put_sum(part.sums, page, b);
+    let d = page::right(part.filler, 8, page, c);
+    let e = page::right(part.sendable, 6, page, d);
+    page::put(b"\n", page, e)
+}
+
+// Puts the bits of a checksum in its column, where there is one.
+fn put_sum(sums: usize, page: &mut [u8], at: usize) -> usize {
+    if sums == 0 {
+        return at;
+    }
+    page::right(sums, 10, page, at)
 }
 
 // From where each redundancy version is sent. Type 1 has only the first.
-fn starts(profile: &[u8], plan: Plan, octets: usize, page: &mut [u8], at: usize) -> usize
-    requires { ⌜ (plan .number ≡ 0) × (plan ≡ planned (now profile) octets) ⌝ }
+fn starts(profile: &[u8], plan: Plan, asked: Parameters, page: &mut [u8], at: usize) -> usize
+    requires { ⌜ (plan .number ≡ 0) × (plan ≡ planned (now profile) (asked .terms .edition) (asked .octets)) ⌝ }
 {
     if profile::inner::kind(profile) == 1 {
         return at;

@@ -14,12 +14,13 @@ pub fn run(words: Words) -> i32 {
 Reads requests, one to a line, and writes an answer to each. Requests, and what is answered behind the number:
 
   crc WIDTH BITS                     the checksum of the bits
+  crc24b BITS                        the checksum that edition 2 puts behind a code block's own bits
   crcoct WIDTH PACKED                the checksum of packed octets
   crcm WIDTH MASK BITS               the checksum of the bits under a mask
   crcappend WIDTH MASK BITS OUTLEN   the bits, with that checksum behind them
   crctest WIDTH MASK BITS            1 if the bits end in such a checksum of those before, else 0
   profile RECORD                     nothing: the number says whether the record is a profile
-  plan RECORD OCTETS                 how a block of so many octets is cut: B, C, K and z
+  plan RECORD OCTETS                 how a block of so many octets is cut: B, C, K, z, and L, the bits of a code block's checksum
   encode RECORD Z PLACES OUTLEN      the places of a code block, with its parity bits
   check RECORD Z BITS                1 if the bits are a word that checks, else 0
   sums RECORD Z BITS OUTLEN          what each row of the spread-out matrix sums to over the bits, modulo two
@@ -34,6 +35,7 @@ Reads requests, one to a line, and writes an answer to each. Requests, and what 
 SHELVES are two words, PRIVATE and PUBLIC; behind PROFILE the words of send, recv and check behind RECORD.
 check, recv, hrecv and hcheck may end in by=quick or by=plain: which checker is asked, quick where nothing is said.
 send, recv, hsend, hrecv and rate may end in rv=N, the redundancy version, and rate in type=N: 0 and 1 where nothing is said.
+plan, send, recv, hsend and hrecv may end in ed=N, the edition: 1 where nothing is said.
 
 docs/REQUESTS.md describes requests, their words and the answers.
 ",

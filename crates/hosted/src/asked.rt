@@ -6,7 +6,7 @@ use console::argv::read_number;
 use console::argv::read_option;
 use text::values;
 
-// The words TENANT and PROFILE, and of a block its octets, N_L, Q_m and G, and behind --rv its redundancy version.
+// The words TENANT and PROFILE, and of a block its octets, N_L, Q_m and G, and behind --rv and --edition its redundancy version and edition.
 pub struct Parameters {
     pub tenant: u16,
     pub profile: u16,
@@ -29,6 +29,7 @@ pub fn for_lookup() -> Parameters {
             nl: 0,
             qm: 0,
             rv: 0,
+            edition: 0,
         },
         g: CodedBits(0),
         bad: tenant.bad | profile.bad,
@@ -42,13 +43,15 @@ pub fn for_send() -> Parameters {
     let order = read_number(5, b"ORDER", usize::MAX);
     let bits = read_number(6, b"BITS", usize::MAX);
     let version = read_version();
+    let edition = read_edition();
     let terms = Terms {
         nl: layers.value,
         qm: order.value,
         rv: version.value,
+        edition: edition.value,
     };
     asked.terms = terms;
-    asked.bad = asked.bad | layers.bad | order.bad | bits.bad | version.bad;
+    asked.bad = asked.bad | layers.bad | order.bad | bits.bad | version.bad | edition.bad;
     with_bits(asked, bits.value)
 }
 
@@ -63,26 +66,34 @@ pub fn for_receive() -> Parameters {
     let order = read_number(6, b"ORDER", usize::MAX);
     asked.octets = octets.value;
     let version = read_version();
+    let edition = read_edition();
     let terms = Terms {
         nl: layers.value,
         qm: order.value,
         rv: version.value,
+        edition: edition.value,
     };
     asked.terms = terms;
-    asked.bad = asked.bad | octets.bad | layers.bad | order.bad | version.bad;
+    asked.bad = asked.bad | octets.bad | layers.bad | order.bad | version.bad | edition.bad;
     asked
 }
 
 // The redundancy version behind --rv, 0 where it is not given. The library refuses those that it does not take.
 fn read_version() -> Number {
-    read_option(b"--rv", b"N", usize::MAX, 0)
+    read_option(b"--rv", b"N behind --rv", usize::MAX, 0)
 }
 
-// RECORD OCTETS [LAYERS ORDER]; one layer and two bits to a symbol where there are only two words.
+// The edition behind --edition, 1 where it is not given; refused by the library likewise.
+fn read_edition() -> Number {
+    read_option(b"--edition", b"N behind --edition", usize::MAX, 1)
+}
+
+// RECORD OCTETS [LAYERS ORDER], and the edition; one layer and two bits to a symbol where there are only two words.
 pub fn for_plan(words: usize) -> Parameters {
     let octets = read_number(1, b"OCTETS", usize::MAX);
     let layers = read_or(words, 2, b"LAYERS", 1);
     let order = read_or(words, 3, b"ORDER", 2);
+    let edition = read_edition();
     Parameters {
         tenant: 0,
         profile: 0,
@@ -91,9 +102,10 @@ pub fn for_plan(words: usize) -> Parameters {
             nl: layers.value,
             qm: order.value,
             rv: 0,
+            edition: edition.value,
         },
         g: CodedBits(0),
-        bad: octets.bad | layers.bad | order.bad,
+        bad: octets.bad | layers.bad | order.bad | edition.bad,
     }
 }
 

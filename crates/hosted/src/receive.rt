@@ -17,10 +17,10 @@ pub fn run(words: Words) -> i32 {
     if words.help {
         return say(words, b"");
     }
-    if argv::has_other(b"--rv\n--plain\n--text\n") {
+    if argv::has_other(b"--rv\n--edition\n--plain\n--text\n") {
         return say(
             words,
-            b"this command takes no options but --rv, --plain and --text",
+            b"this command takes no options but --rv, --edition, --plain and --text",
         );
     }
     if words.count != 7 {
@@ -37,7 +37,7 @@ fn say(words: Words, why: &[u8]) -> i32 {
     help::say(
         words.help,
         why,
-        b"usage: kuambyte receive PRIVATE PUBLIC TENANT PROFILE OCTETS LAYERS ORDER [--rv N] [--plain] [--text] < bits > block
+        b"usage: kuambyte receive PRIVATE PUBLIC TENANT PROFILE OCTETS LAYERS ORDER [--rv N] [--edition N] [--plain] [--text] < bits > block
 
 Reads the bits that were sent of a transport block of OCTETS octets and writes the block. How many bits there are is G.
 
@@ -47,6 +47,7 @@ Reads the bits that were sent of a transport block of OCTETS octets and writes t
   LAYERS            N_L, 1 to 4
   ORDER             Q_m, the bits of a symbol: 2, 4 or 6
   --rv N            the redundancy version that the bits were sent with, 0 to 3; 0 where it is not given
+  --edition N       the edition that the bits were sent in, 1 or 2; 1 where it is not given
   --plain           ask the plain parity checker, which goes through the matrix element by element; it says the same
   --text            read bits as characters 0 and 1, line ends skipped, not as octets 0 and 1
 ",

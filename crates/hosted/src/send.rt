@@ -16,8 +16,11 @@ pub fn run(words: Words) -> i32 {
     if words.help {
         return say(words, b"");
     }
-    if argv::has_other(b"--rv\n--text\n") {
-        return say(words, b"this command takes no options but --rv and --text");
+    if argv::has_other(b"--rv\n--edition\n--text\n") {
+        return say(
+            words,
+            b"this command takes no options but --rv, --edition and --text",
+        );
     }
     if words.count != 7 {
         return say(words, b"this command takes seven words");
@@ -33,7 +36,7 @@ fn say(words: Words, why: &[u8]) -> i32 {
     help::say(
         words.help,
         why,
-        b"usage: kuambyte send PRIVATE PUBLIC TENANT PROFILE LAYERS ORDER BITS [--rv N] [--text] < block > bits
+        b"usage: kuambyte send PRIVATE PUBLIC TENANT PROFILE LAYERS ORDER BITS [--rv N] [--edition N] [--text] < block > bits
 
 Reads a transport block of 1 to 2048 packed octets and writes the BITS bits that are sent of it.
 
@@ -44,6 +47,7 @@ Reads a transport block of 1 to 2048 packed octets and writes the BITS bits that
   BITS              G, a multiple of N_L times Q_m up to 65536
   --rv N            the redundancy version, 0 to 3, which says from where each code block is sent; 0 where it is not given.
                     A profile of Type 1 takes 0 only
+  --edition N       the edition, 1 or 2: in 2 each of several code blocks carries a checksum; 1 where it is not given
   --text            write bits as characters 0 and 1 with a line end behind, not as octets 0 and 1
 ",
     )

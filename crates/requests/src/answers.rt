@@ -129,7 +129,8 @@ fn plan(cut: Plan, out: &mut [u8], at: usize) -> usize
     let blocks = numbers::next_decimal(cut.bits as u64, out, bits);
     let places = numbers::next_decimal(cut.blocks as u64, out, blocks);
     let z = numbers::next_decimal(cut.places as u64, out, places);
-    let end = numbers::next_decimal(cut.z as u64, out, z);
+    let sums = numbers::next_decimal(cut.z as u64, out, z);
+    let end = numbers::next_decimal(cut.sums as u64, out, sums);
     octets::put_one(b'\n', out, end)
 }
 

@@ -1,4 +1,4 @@
-// The request `hrecv PRIVATE PUBLIC TENANT PROFILE A NL QM BITS OUTLEN rv=0 by=quick|plain`: the block that was sent as a tenant's bits.
+// The request `hrecv PRIVATE PUBLIC TENANT PROFILE A NL QM BITS OUTLEN rv=0 ed=1 by=quick|plain`: the block that was sent as a tenant's bits.
 use crate::answers::Answer;
 use crate::checker;
 use crate::output;
@@ -22,8 +22,9 @@ pub fn answer<'a>(
         nl: numbers[6],
         qm: numbers[7],
         rv: numbers[10],
+        edition: numbers[11],
     };
-    let by = checker::of_place(numbers[11]);
+    let by = checker::of_place(numbers[12]);
     let written = shelf::hosted_receive(private, public, tenant, profile, a, terms, bits, by, lent);
     output::answer(Shown::Octets, written, lent)
 }

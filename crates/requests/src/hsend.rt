@@ -1,4 +1,4 @@
-// The request `hsend PRIVATE PUBLIC TENANT PROFILE BLOCK NL QM G OUTLEN rv=0`: the bits that are sent of a tenant's block.
+// The request `hsend PRIVATE PUBLIC TENANT PROFILE BLOCK NL QM G OUTLEN rv=0 ed=1`: the bits that are sent of a tenant's block.
 use crate::answers::Answer;
 use crate::output;
 use bits::count::CodedBits;
@@ -21,6 +21,7 @@ pub fn answer<'a>(
         nl: numbers[6],
         qm: numbers[7],
         rv: numbers[10],
+        edition: numbers[11],
     };
     let g = CodedBits(numbers[8]);
     let written = shelf::hosted_send(private, public, tenant, profile, block, terms, g, lent);

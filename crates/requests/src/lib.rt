@@ -3,6 +3,7 @@ pub mod answers;
 mod check;
 mod checker;
 mod crc;
+mod crc24b;
 mod crcappend;
 mod crcm;
 mod crcoct;

@@ -2,6 +2,7 @@
 use crate::answers::Answer;
 use crate::check;
 use crate::crc;
+use crate::crc24b;
 use crate::crcappend;
 use crate::crcm;
 use crate::crcoct;
@@ -32,21 +33,22 @@ ghost use Rattle.text.specs.Words.{Held};
 pub fn answer(request: &[u8], records: &mut [u8], bits: &mut [u8], lent: &mut [u8]) -> Answer {
     of_list(
         b"crc WIDTH BITS
+crc24b BITS
 crcoct WIDTH PACKED
 crcm WIDTH MASK BITS
 crcappend WIDTH MASK BITS OUTLEN
 crctest WIDTH MASK BITS
 profile RECORD
-plan RECORD OCTETS
+plan RECORD OCTETS ed=1
 encode RECORD Z PLACES OUTLEN
 check RECORD Z BITS by=quick|plain
 sums RECORD Z BITS OUTLEN
 rate E PLACES OUTLEN type=1 rv=0
-send RECORD BLOCK NL QM G OUTLEN rv=0
-recv RECORD A NL QM BITS OUTLEN rv=0 by=quick|plain
+send RECORD BLOCK NL QM G OUTLEN rv=0 ed=1
+recv RECORD A NL QM BITS OUTLEN rv=0 ed=1 by=quick|plain
 lookup PRIVATE PUBLIC TENANT PROFILE
-hsend PRIVATE PUBLIC TENANT PROFILE BLOCK NL QM G OUTLEN rv=0
-hrecv PRIVATE PUBLIC TENANT PROFILE A NL QM BITS OUTLEN rv=0 by=quick|plain
+hsend PRIVATE PUBLIC TENANT PROFILE BLOCK NL QM G OUTLEN rv=0 ed=1
+hrecv PRIVATE PUBLIC TENANT PROFILE A NL QM BITS OUTLEN rv=0 ed=1 by=quick|plain
 hcheck PRIVATE PUBLIC TENANT PROFILE Z BITS by=quick|plain
 ",
         request,
@@ -126,22 +128,23 @@ fn of_kind<'a>(
 ) -> Answer {
     match kind {
         0 => crc::answer(numbers, bits),
-        1 => crcoct::answer(numbers, record),
-        2 => crcm::answer(numbers, bits),
-        3 => crcappend::answer(numbers, bits, lent),
-        4 => crctest::answer(numbers, bits),
-        5 => judge::answer(record),
-        6 => plan::answer(numbers, record),
-        7 => encode::answer(numbers, record, bits, lent),
-        8 => check::answer(numbers, record, bits),
-        9 => sums::answer(numbers, record, bits, lent),
-        10 => rate::answer(numbers, bits, lent),
-        11 => send::answer(numbers, record, bits, lent),
-        12 => recv::answer(numbers, record, bits, lent),
-        13 => lookup::answer(numbers, record, public),
-        14 => hsend::answer(numbers, record, public, bits, lent),
-        15 => hrecv::answer(numbers, record, public, bits, lent),
-        16 => hcheck::answer(numbers, record, public, bits),
+        1 => crc24b::answer(bits),
+        2 => crcoct::answer(numbers, record),
+        3 => crcm::answer(numbers, bits),
+        4 => crcappend::answer(numbers, bits, lent),
+        5 => crctest::answer(numbers, bits),
+        6 => judge::answer(record),
+        7 => plan::answer(numbers, record),
+        8 => encode::answer(numbers, record, bits, lent),
+        9 => check::answer(numbers, record, bits),
+        10 => sums::answer(numbers, record, bits, lent),
+        11 => rate::answer(numbers, bits, lent),
+        12 => send::answer(numbers, record, bits, lent),
+        13 => recv::answer(numbers, record, bits, lent),
+        14 => lookup::answer(numbers, record, public),
+        15 => hsend::answer(numbers, record, public, bits, lent),
+        16 => hrecv::answer(numbers, record, public, bits, lent),
+        17 => hcheck::answer(numbers, record, public, bits),
         _ => Answer::Error(Fault::Request),
     }
 }

@@ -1,4 +1,4 @@
-// The request `recv RECORD A NL QM BITS OUTLEN rv=0 by=quick|plain`: the block that was sent as these bits.
+// The request `recv RECORD A NL QM BITS OUTLEN rv=0 ed=1 by=quick|plain`: the block that was sent as these bits.
 use crate::answers::Answer;
 use crate::checker;
 use crate::output;
@@ -13,8 +13,9 @@ pub fn answer(numbers: &[usize; WORDS], record: &[u8], bits: &[u8], lent: &mut [
         nl: numbers[3],
         qm: numbers[4],
         rv: numbers[7],
+        edition: numbers[8],
     };
-    let by = checker::of_place(numbers[8]);
+    let by = checker::of_place(numbers[9]);
     let written = coding::receive(record, a, terms, bits, by, lent);
     output::answer(Shown::Octets, written, lent)
 }

@@ -1,4 +1,4 @@
-// The request `send RECORD BLOCK NL QM G OUTLEN rv=0`: the bits that are sent of a block.
+// The request `send RECORD BLOCK NL QM G OUTLEN rv=0 ed=1`: the bits that are sent of a block.
 use crate::answers::Answer;
 use crate::output;
 use bits::count::CodedBits;
@@ -12,6 +12,7 @@ pub fn answer(numbers: &[usize; WORDS], record: &[u8], block: &[u8], lent: &mut 
         nl: numbers[3],
         qm: numbers[4],
         rv: numbers[7],
+        edition: numbers[8],
     };
     let g = CodedBits(numbers[5]);
     let written = coding::send(record, block, terms, g, lent);

@@ -50,6 +50,7 @@ fn main() {
             nl: 1,
             qm: 2,
             rv: 0,
+            edition: 1,
         },
         CodedBits(128),
         &mut out,

@@ -19,9 +19,9 @@ fn error(fault: Fault) -> String {
 #[cfg(test)]
 mod tests {
     use super::answer;
-    use crate::kinds::parts::digits;
+    use crate::kinds::parts::{digits, hex};
     use crate::lines::LINE_ROOM;
-    use crate::samples::bits_of_hex;
+    use crate::samples::{bits_of_hex, twenty, TWENTY_SENT};
     use crate::words::BITS_ROOM;
 
     const TOY: &str = "000100030000000100010002000E000100FF01000000FF01FF00";
@@ -41,6 +41,9 @@ mod tests {
         assert_eq!(answered("crc 24 00000001"), "0 864cfb");
         assert_eq!(answered("crc 7 1"), "8 0");
         assert_eq!(answered("crc 8 12"), "12 0");
+        assert_eq!(answered("crc24b 1"), "0 800063");
+        assert_eq!(answered("crc24b -"), "0 0");
+        assert_eq!(answered("crc24b 12"), "12 0");
         assert_eq!(answered("crcoct 24 01"), "0 864cfb");
         assert_eq!(answered("crcoct 7 01"), "8 0");
         assert_eq!(answered("crcm 16 ffff 1"), "0 efde");
@@ -59,8 +62,8 @@ mod tests {
         assert_eq!(answered("crctest 16 ffff 2"), "12 0");
         assert_eq!(answered(&format!("profile {TOY}")), "0");
         assert_eq!(answered(&format!("profile {TOY}00")), "5");
-        assert_eq!(answered(&format!("plan {TOY} 13")), "0 128 64 2 2");
-        assert_eq!(answered(&format!("plan {TOY} 14")), "9 0 0 0 0");
+        assert_eq!(answered(&format!("plan {TOY} 13")), "0 128 64 2 2 0");
+        assert_eq!(answered(&format!("plan {TOY} 14")), "9 0 0 0 0 0");
         assert_eq!(answered(&format!("encode {TOY} 2 12 8")), "0 8 12110111");
         assert_eq!(answered(&format!("encode {TOY} 2 12 7")), "11 0 -");
         assert_eq!(answered(&format!("check {TOY} 2 01111011")), "0 1");
@@ -162,6 +165,69 @@ mod tests {
         }
         let hosted = answered(&format!("hsend {shelves} A5 1 2 176 176 rv=1"));
         assert_eq!(hosted, format!("0 176 {bits}"));
+    }
+
+    #[test]
+    fn an_edition_is_read() {
+        let record = hex(&twenty().octets());
+        let [one, two] = TWENTY_SENT;
+        let send = format!("send {record} 010203 1 2 138 138");
+        for (ending, text) in [
+            ("", format!("0 138 {one}")),
+            (" ed=1", format!("0 138 {one}")),
+            (" ed=2", format!("0 138 {two}")),
+            (" ed=002 rv=0", format!("0 138 {two}")),
+            (" rv=1 ed=2", "16 0 -".to_string()),
+            (" rv=1 ed=3", "19 0 -".to_string()),
+            (" ed=0", "19 0 -".to_string()),
+            (" ed=18446744073709551615", "19 0 -".to_string()),
+            (" ed=18446744073709551616", "error number".to_string()),
+            (" ed=", "error number".to_string()),
+            (" ed=two", "error number".to_string()),
+            (" ed=2 ed=2", "error words".to_string()),
+            (" ED=2", "error words".to_string()),
+        ] {
+            assert_eq!(answered(&format!("{send}{ending}")), text, "{ending}");
+        }
+        for (ending, text) in [
+            ("3", "0 48 2 40 2 0"),
+            ("3 ed=1", "0 48 2 40 2 0"),
+            ("3 ed=2", "0 48 3 40 2 24"),
+            ("1 ed=2", "0 32 1 40 2 0"),
+            ("125 ed=2", "0 1024 64 40 2 24"),
+            ("126 ed=2", "9 0 0 0 0 0"),
+            ("0 ed=2", "7 0 0 0 0 0"),
+            ("0 ed=3", "19 0 0 0 0 0"),
+            ("3 rv=0", "error words"),
+        ] {
+            assert_eq!(answered(&format!("plan {record} {ending}")), text);
+        }
+        assert_eq!(answered("plan - 0 ed=3"), "5 0 0 0 0 0");
+        // The bits again, one digit each.
+        let digits = digits(&bits_of_hex(two, 138));
+        let shelves = format!("000100010007000A0053{record} 0000 1 7");
+        for (line, text) in [
+            (format!("recv {record} 24 1 2 {digits} 3"), "14 0 -"),
+            (
+                format!("recv {record} 24 1 2 {digits} 3 ed=2"),
+                "0 3 010203",
+            ),
+            (
+                format!("recv {record} 24 1 2 {digits} 3 by=plain rv=0 ed=2"),
+                "0 3 010203",
+            ),
+            (format!("recv {record} 24 1 2 {digits} 3 ed=4"), "19 0 -"),
+            (
+                format!("hrecv {shelves} 24 1 2 {digits} 3 ed=2"),
+                "0 3 010203",
+            ),
+            (format!("hrecv {shelves} 24 1 2 {digits} 3 ed=1"), "14 0 -"),
+            (format!("hrecv {shelves} 24 1 2 {digits} 3 ed=0"), "19 0 -"),
+        ] {
+            assert_eq!(answered(&line), text, "{line}");
+        }
+        let hosted = answered(&format!("hsend {shelves} 010203 1 2 138 138 ed=2"));
+        assert_eq!(hosted, format!("0 138 {two}"));
     }
 
     #[test]

@@ -1,4 +1,5 @@
-//! The checksums of 5G.212 v2.3 section 5.1.1, as the remainder of a long division.
+//! The checksums of 5G.212 v2.3 section 5.1.1, and 24B of source document 000 (document 02, CR 8), as the
+//! remainder of a long division.
 
 use crate::numbers::{Number, NO_BIT, PARAMETER};
 use crate::octets::unpacked;
@@ -7,6 +8,10 @@ use crate::octets::unpacked;
 const CRC24A: &[usize] = &[24, 23, 18, 17, 14, 11, 10, 7, 6, 5, 4, 3, 1, 0];
 const CRC16: &[usize] = &[16, 12, 5, 0];
 const CRC8: &[usize] = &[8, 7, 4, 3, 1, 0];
+
+/// The generator that source document 000, section 5.1.1, writes beside these: gCRC24B(D) = D^24 + D^23 + D^6 +
+/// D^5 + D + 1.
+const CRC24B: &[usize] = &[24, 23, 6, 5, 1, 0];
 
 /// The checksum of single bits, or the number that refuses them (document 01).
 pub fn checksum(width: u64, bits: &[u8]) -> Result<u32, Number> {
@@ -23,6 +28,17 @@ pub fn checksum_of_octets(width: u64, octets: &[u8]) -> Result<u32, Number> {
 /// "Append the 24 checksum bits of gCRC24A" (document 01, step 1).
 pub fn with_checksum(bits: &[u8]) -> Vec<u8> {
     [bits, &parity_bits(bits, &coefficients(CRC24A))].concat()
+}
+
+/// The 24B checksum of single bits, or 12. It is that of no width: 24 stays 24A.
+pub fn block_checksum(bits: &[u8]) -> Result<u32, Number> {
+    single_bits(bits)?;
+    Ok(value(&parity_bits(bits, &coefficients(CRC24B))))
+}
+
+/// "each block's own bits are followed by their 24B checksum" (document 02, CR 8).
+pub fn with_block_checksum(own: &[u8]) -> Vec<u8> {
+    [own, &parity_bits(own, &coefficients(CRC24B))].concat()
 }
 
 /// The generator of a width as its coefficients, or the number for "a checksum width other than 8, 16
@@ -93,7 +109,10 @@ pub fn value(bits: &[u8]) -> u32 {
 
 #[cfg(test)]
 mod tests {
-    use super::{checksum, checksum_of_octets, parity_bits, remainder, value, with_checksum};
+    use super::{
+        block_checksum, checksum, checksum_of_octets, coefficients, parity_bits, remainder, value,
+        with_block_checksum, with_checksum, CRC24B,
+    };
     use crate::numbers::{NO_BIT, PARAMETER};
     use crate::octets::unpacked;
     use crate::random::Random;
@@ -173,6 +192,58 @@ mod tests {
         // Document 01, P1.
         let word = with_checksum(&unpacked(&[0x01]));
         assert_eq!(word, unpacked(&[0x01, 0x86, 0x4c, 0xfb]));
+    }
+
+    #[test]
+    fn the_generator_of_code_blocks() {
+        // Document 02, CR 8: "gCRC24B, low bits 800063".
+        let generator = coefficients(CRC24B);
+        assert_eq!((generator.len(), generator[0]), (25, 1));
+        assert_eq!(value(&generator[1..]), 0x80_0063);
+        assert_eq!(block_checksum(&generator), Ok(0));
+        assert_eq!(block_checksum(&[1]), Ok(0x80_0063));
+    }
+
+    #[test]
+    fn the_checksum_of_code_blocks_has_its_published_check_value() {
+        // CRC-24/LTE-B, worked out beforehand.
+        let digits = unpacked(b"123456789");
+        assert_eq!(block_checksum(&digits), Ok(0x23_ef52));
+        assert_eq!(block_checksum(&[]), Ok(0));
+        assert_eq!(block_checksum(&[0; 40]), Ok(0));
+        // 1 behind the 1: 10 times D^24 leaves 800063 doubled without carry and less the generator, 8000a5.
+        assert_eq!(block_checksum(&[1, 0]), Ok(0x80_00a5));
+    }
+
+    #[test]
+    fn a_code_block_and_its_checksum_leave_nothing_by_24b_alone() {
+        let mut random = Random::new(4);
+        for length in 0..200 {
+            let own = bits(length, &mut random);
+            let word = with_block_checksum(&own);
+            assert_eq!(word[..length], own);
+            let left = |word: &[u8]| remainder(word.to_vec(), &coefficients(CRC24B));
+            assert_eq!(left(&word), [0; 24]);
+            let zeros = own.iter().all(|&bit| bit == 0);
+            // 24A is another one.
+            assert_eq!(word == with_checksum(&own), zeros);
+            for place in 0..word.len() {
+                let mut changed = word.clone();
+                changed[place] = 1 - changed[place];
+                assert_ne!(left(&changed), [0; 24]);
+            }
+        }
+    }
+
+    #[test]
+    fn a_code_blocks_checksum_takes_single_bits() {
+        for octet in 2..=255 {
+            for place in [0, 1, 50, 99] {
+                let mut bits = vec![1; 100];
+                bits[place] = octet;
+                assert_eq!(block_checksum(&bits), Err(NO_BIT));
+            }
+        }
     }
 
     #[test]

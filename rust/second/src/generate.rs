@@ -2,6 +2,7 @@
 
 mod broken;
 pub mod crc;
+pub mod crc24b;
 pub mod crcoct;
 pub mod hosted;
 mod large;
@@ -89,7 +90,7 @@ mod tests {
     use crate::record::Coding;
     use crate::requests::request;
     use crate::shelf::lookup;
-    use crate::transfer::{Asked, Transfer};
+    use crate::transfer::Transfer;
     use crate::version::Version;
     use std::collections::{BTreeMap, BTreeSet};
 
@@ -168,23 +169,24 @@ mod tests {
     fn every_number_of_a_kind_is_asked_for() {
         for (kind, expected) in [
             ("crc", &[0, 8, 12][..]),
+            ("crc24b", &[0, 12]),
             ("crcoct", &[0, 8]),
             ("crcm", &[0, 8, 12]),
             ("crcappend", &[0, 8, 11, 12]),
             ("crctest", &[0, 8, 12]),
             ("profile", &[0, 5, 6]),
-            ("plan", &[0, 5, 6, 7, 9]),
+            ("plan", &[0, 5, 6, 7, 9, 19]),
             ("encode", &[0, 5, 6, 8, 11, 12]),
             ("check", &[0, 5, 6, 8, 12]),
             ("sums", &[0, 5, 6, 8, 11, 12]),
             ("rate", &[0, 5, 8, 11, 12, 16]),
-            ("send", &[0, 5, 6, 7, 8, 9, 10, 11, 16]),
-            ("recv", &[0, 5, 6, 7, 8, 9, 10, 11, 12, 13, 14, 16]),
+            ("send", &[0, 5, 6, 7, 8, 9, 10, 11, 16, 19]),
+            ("recv", &[0, 5, 6, 7, 8, 9, 10, 11, 12, 13, 14, 16, 19]),
             ("lookup", &[0, 1, 2, 3, 4]),
-            ("hsend", &[0, 1, 2, 3, 4, 5, 6, 7, 8, 9, 10, 11, 16]),
+            ("hsend", &[0, 1, 2, 3, 4, 5, 6, 7, 8, 9, 10, 11, 16, 19]),
             (
                 "hrecv",
-                &[0, 1, 2, 3, 4, 5, 6, 7, 8, 9, 10, 11, 12, 13, 14, 16],
+                &[0, 1, 2, 3, 4, 5, 6, 7, 8, 9, 10, 11, 12, 13, 14, 16, 19],
             ),
             ("hcheck", &[0, 1, 2, 3, 4, 5, 6, 8, 12]),
         ] {
@@ -231,14 +233,14 @@ mod tests {
     #[test]
     fn a_checker_is_asked_for_in_each_way() {
         for kind in ["check", "recv", "hrecv", "hcheck"] {
-            let counts = checkers(&generated(Some(kind), 4, 900));
+            let counts = checkers(&generated(Some(kind), 4, 1000));
             assert!(
                 counts.iter().all(|&count| count > 200),
                 "{kind}: {counts:?}"
             );
         }
         for kind in ["encode", "sums", "hsend"] {
-            let counts = checkers(&generated(Some(kind), 4, 900));
+            let counts = checkers(&generated(Some(kind), 4, 1000));
             assert_eq!(counts[1..], [0, 0], "{kind}");
         }
     }
@@ -259,24 +261,8 @@ mod tests {
             let sending = parts::sending(&mut given);
             (8 * sending.block.len() as u64, sending.asked)
         } else {
-            let parts::Receiving {
-                a,
-                layers,
-                order,
-                bits,
-                rv,
-                ..
-            } = parts::receiving(&mut given);
-            let g = bits.len() as u64;
-            (
-                a,
-                Asked {
-                    layers,
-                    order,
-                    g,
-                    rv,
-                },
-            )
+            let receiving = parts::receiving(&mut given);
+            (receiving.a, receiving.received().asked())
         };
         Transfer::new(&record, a, asked).ok()
     }
@@ -318,7 +304,7 @@ mod tests {
             };
             let plan = &transfer.plan;
             let start = transfer.version.start(transfer.profile.columns() * plan.z);
-            let is_inside = |r| (plan.own_bits(r)..plan.k).contains(&start);
+            let is_inside = |r| (plan.carried_bits(r)..plan.k).contains(&start);
             inside += usize::from((0..plan.c).any(is_inside));
             let rv = (0..4).position(|rv| Version::new(Coding::Two, rv) == Ok(transfer.version));
             versions[rv.unwrap_or(0)] += 1;
@@ -338,28 +324,101 @@ mod tests {
         }
     }
 
-    /// The answers to the requests with an rv that no type has.
-    fn answers_over_3(mut input: &[u8]) -> BTreeMap<String, usize> {
-        let mut over = Vec::new();
+    /// How many of the lines that are done have several blocks without checksums of their own, and how many
+    /// with them.
+    fn sums(name: &str, mut input: &[u8]) -> [usize; 2] {
+        let mut counts = [0; 2];
         while let Some(line) = next_line(&mut input).unwrap() {
-            let read = request(&line);
-            if read.is_ok_and(|read| read.is_some_and(|(_, given)| given.number_of("rv") > 3)) {
-                over.extend(line);
-                over.push(b'\n');
+            let Some(transfer) = transfer(name, &line) else {
+                continue;
+            };
+            if transfer.plan.c > 1 && answer(&line).unwrap().starts_with("0 ") {
+                counts[usize::from(transfer.plan.l > 0)] += 1;
             }
         }
-        answers(&over)
+        counts
+    }
+
+    #[test]
+    fn a_third_of_what_is_cut_carries_checksums() {
+        for name in ["send", "recv", "hsend", "hrecv"] {
+            let [without, with] = sums(name, &generated(Some(name), 4, 2000));
+            assert!(with > 200 && without > 200, "{name}: {without} {with}");
+            assert!(3 * with > without + with, "{name}: {without} {with}");
+        }
+    }
+
+    /// The answers to the requests whose optional word of this name holds such a number.
+    fn answers_where(
+        name: &str,
+        holds: fn(u64) -> bool,
+        mut input: &[u8],
+    ) -> BTreeMap<String, usize> {
+        let mut such = Vec::new();
+        while let Some(line) = next_line(&mut input).unwrap() {
+            let read = request(&line);
+            if read.is_ok_and(|read| read.is_some_and(|(_, given)| holds(given.number_of(name)))) {
+                such.extend(line);
+                such.push(b'\n');
+            }
+        }
+        answers(&such)
+    }
+
+    /// The answers to the requests with an rv that no type has.
+    fn answers_over_3(input: &[u8]) -> BTreeMap<String, usize> {
+        answers_where("rv", |rv| rv > 3, input)
+    }
+
+    #[test]
+    fn pairs_of_faults_show_where_19_stands() {
+        for name in ["plan", "send", "recv", "hsend", "hrecv"] {
+            let lines = generated(Some(name), 4, 6000);
+            let counts = answers_where("ed", |ed| ![1, 2].contains(&ed), &lines);
+            // 5 and 6 go before it, and all that is behind it is never answered.
+            for first in ["5", "6", "19"] {
+                assert!(counts.contains_key(first), "{name}: {counts:?}");
+            }
+            let before = ["1", "2", "3", "4", "5", "6", "19"];
+            assert!(
+                counts.keys().all(|number| before.contains(&&number[..])),
+                "{name}: {counts:?}"
+            );
+        }
+    }
+
+    #[test]
+    fn both_editions_are_asked_for_with_every_number() {
+        for name in ["plan", "send", "recv", "hsend", "hrecv"] {
+            let lines = generated(Some(name), 6, 6000);
+            for holds in [|ed| ed == 1, |ed: u64| ed == 2] {
+                let counts = answers_where("ed", holds, &lines);
+                let numbers: &[&str] = match &name[name.len() - 4..] {
+                    "plan" => &["0", "5", "6", "7", "9"],
+                    "send" => &["0", "5", "6", "7", "16", "8", "9", "10", "11"],
+                    _ => &[
+                        "0", "5", "6", "7", "16", "8", "9", "10", "11", "12", "13", "14",
+                    ],
+                };
+                for number in numbers {
+                    assert!(
+                        counts.get(*number) > Some(&10),
+                        "{name} {number}: {counts:?}"
+                    );
+                }
+            }
+        }
     }
 
     #[test]
     fn pairs_of_faults_show_where_16_stands() {
         for name in ["send", "recv", "hsend", "hrecv"] {
             let counts = answers_over_3(&generated(Some(name), 4, 6000));
-            // 5, 6 and 7 go before it, and all that is behind it is never answered.
-            for first in ["5", "6", "7", "16"] {
+            // 5, 6, 19 and 7 go before it, and all that is behind it is never answered.
+            for first in ["5", "6", "19", "7", "16"] {
                 assert!(counts.contains_key(first), "{name}: {counts:?}");
             }
-            let before = ["1", "2", "3", "4", "5", "6", "7", "16"];
+            let before = ["1", "2", "3", "4", "5", "6", "19", "7", "16"];
             assert!(
                 counts.keys().all(|number| before.contains(&&number[..])),
                 "{name}: {counts:?}"

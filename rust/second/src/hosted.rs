@@ -3,7 +3,7 @@
 
 use crate::numbers::Number;
 use crate::parity::check;
-use crate::receive::receive;
+use crate::receive::{receive, Received};
 use crate::send::send;
 use crate::shelf::{lookup, Asked};
 use crate::transfer;
@@ -22,15 +22,11 @@ pub fn hosted_send(
 /// The count of octets written, or 1 to 4, or as receiving answers.
 pub fn hosted_receive(
     shelves: &Asked,
-    a: u64,
-    layers: u64,
-    order: u64,
-    rv: u64,
-    bits: &[u8],
+    received: Received,
     output: &mut [u8],
 ) -> Result<usize, Number> {
     let found = lookup(shelves)?;
-    receive(shelves.octets(&found), a, layers, order, rv, bits, output)
+    receive(shelves.octets(&found), received, output)
 }
 
 /// Whether a word checks, or 1 to 4, or as checking answers.

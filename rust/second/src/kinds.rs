@@ -2,6 +2,7 @@
 
 mod check;
 mod crc;
+mod crc24b;
 mod crcappend;
 mod crcm;
 mod crcoct;
@@ -25,6 +26,7 @@ use crate::generate::Makers;
 
 pub const KINDS: &[Kind] = &[
     crc::KIND,
+    crc24b::KIND,
     crcoct::KIND,
     crcm::KIND,
     crcappend::KIND,

@@ -5,6 +5,7 @@ mod allocation;
 mod answer;
 mod checksum;
 mod draft;
+mod edition;
 mod errors;
 mod form;
 mod generate;

@@ -29,7 +29,8 @@ pub const BLOCK_LENGTH: Number = 7;
 /// call for one part alone a z, a length, a width or an E.
 pub const PARAMETER: Number = 8;
 
-/// The transport block would be cut into more than 64 code blocks.
+/// The transport block would be cut into more than 64 code blocks, or in edition 2 into blocks that have
+/// no room but for their checksum.
 pub const MANY_BLOCKS: Number = 9;
 
 /// There are fewer symbol places than code blocks.
@@ -51,3 +52,6 @@ pub const UNSENT: Number = 14;
 
 /// The redundancy version is over 3, or against the type. It is tested between 7 and 8.
 pub const VERSION: Number = 16;
+
+/// The edition is neither 1 nor 2. It is tested before 7.
+pub const EDITION: Number = 19;

@@ -7,25 +7,36 @@ use crate::parity::FILLER;
 use crate::rate::sent_places;
 use crate::transfer::{Asked, Transfer};
 
-/// The count of octets written, which is A/8, or 5 to 14, or 16.
-pub fn receive(
-    record: &[u8],
-    a: u64,
-    layers: u64,
-    order: u64,
-    rv: u64,
-    bits: &[u8],
-    output: &mut [u8],
-) -> Result<usize, Number> {
-    // "the received bits, whose number is G".
-    let g = bits.len() as u64;
-    let asked = Asked {
-        layers,
-        order,
-        g,
-        rv,
-    };
-    let transfer = Transfer::new(record, a, asked)?;
+/// A, N_L, Q_m, the redundancy version and the edition as they are asked for, any numbers, and the received
+/// bits.
+#[derive(Clone, Copy, Debug)]
+pub struct Received<'bits> {
+    pub a: u64,
+    pub layers: u64,
+    pub order: u64,
+    pub rv: u64,
+    pub ed: u64,
+    pub bits: &'bits [u8],
+}
+
+impl Received<'_> {
+    /// What sending is asked for to give these bits.
+    pub fn asked(&self) -> Asked {
+        Asked {
+            layers: self.layers,
+            order: self.order,
+            // "the received bits, whose number is G".
+            g: self.bits.len() as u64,
+            rv: self.rv,
+            ed: self.ed,
+        }
+    }
+}
+
+/// The count of octets written, which is A/8, or 5 to 14, 16 or 19.
+pub fn receive(record: &[u8], received: Received, output: &mut [u8]) -> Result<usize, Number> {
+    let transfer = Transfer::new(record, received.a, received.asked())?;
+    let bits = received.bits;
     if output.len() < transfer.octets {
         return Err(OUTPUT);
     }
@@ -37,7 +48,8 @@ pub fn receive(
     }
     let block = candidate(&transfer, bits);
     // "it accepts exactly the bits that sending some transport block of that length gives". No
-    // other block than the candidate has these systematic bits.
+    // other block than the candidate has these own bits. "Receiving tests those checksums too": where a
+    // code block's 24B is not that of its own bits, it is not sent so.
     if transfer.sent(&block) != bits {
         return Err(UNSENT);
     }
@@ -57,18 +69,17 @@ pub fn has_room(transfer: &Transfer) -> bool {
 pub fn unmarked_places(transfer: &Transfer, r: usize) -> usize {
     let plan = &transfer.plan;
     let coded = transfer.profile.columns() * plan.z;
-    let filler = plan.k - plan.own_bits(r);
-    coded - filler
+    coded - plan.filler(r)
 }
 
-/// The octets that the systematic bits carry. There is room for each of them.
+/// The octets that the blocks' own bits give. There is room for each of them.
 fn candidate(transfer: &Transfer, bits: &[u8]) -> Vec<u8> {
-    let mut carried = Vec::new();
+    let mut whole = Vec::new();
     for r in 0..transfer.plan.c {
-        carried.extend(own_bits(transfer, r, &bits[transfer.stretch(r)]));
+        whole.extend(own_bits(transfer, r, &bits[transfer.stretch(r)]));
     }
-    // The checksum's bits follow those of the octets.
-    packed(&carried[..8 * transfer.octets])
+    // The transport block's checksum follows the bits of the octets.
+    packed(&whole[..8 * transfer.octets])
 }
 
 /// A block's own bits out of its share: each as the first copy of its place has it.
@@ -88,7 +99,7 @@ fn own_bits(transfer: &Transfer, r: usize, share: &[u8]) -> Vec<u8> {
 pub fn order(transfer: &Transfer, r: usize) -> Vec<usize> {
     let plan = &transfer.plan;
     let mut places = vec![0; transfer.profile.columns() * plan.z];
-    places[plan.own_bits(r)..plan.k].fill(FILLER);
+    places[plan.carried_bits(r)..plan.k].fill(FILLER);
     sent_places(&places, transfer.version, transfer.shares[r])
 }
 

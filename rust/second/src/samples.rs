@@ -116,6 +116,28 @@ pub const EXTENDED_SENT: [&str; 4] = [
     "7a8ab0fd657a657a7a8a00001ff0ca77657a7a8aaf1a",
 ];
 
+/// The record with which edition 2 was worked out beforehand: kb 20, m 3, one z of 2, so that Kmax is 40. Of
+/// its first twenty columns row 0 holds j mod 2, row 1 floor(j/2) mod 2, and row 2 nothing and 0 in turn; its
+/// staircase is the toy's.
+#[cfg(test)]
+pub fn twenty() -> Draft {
+    let row = |entry: fn(u8) -> u8| (0..20).map(entry).collect();
+    let left: Rows = vec![
+        row(|j| j % 2),
+        row(|j| j / 2 % 2),
+        row(|j| if j % 2 == 0 { EMPTY } else { 0 }),
+    ];
+    Draft::new(20, 3, vec![(2, with_staircase(&left, 1, 1))])
+}
+
+/// What octets 010203 are sent as with it, N_L 1, Q_m 2 and G 138, in hexadecimal, in editions 1 and 2: two blocks
+/// of 24 bits, and three of 16 bits and their checksums, E and N being 46.
+#[cfg(test)]
+pub const TWENTY_SENT: [&str; 2] = [
+    "0102030004080c00110a3ac6b428eb1ad080",
+    "0102004284900d0803581148eb122b1229c0",
+];
+
 /// A record of Type 2 with nothing but zeros left of its staircases, and with extension rows that are filled
 /// in every other column before their 0, with shift 1 where z allows it.
 #[cfg(test)]

@@ -158,7 +158,7 @@ fn what_is_stored_in_the_old_form_is_rewritten() {
     assert!(output.stdout.is_empty());
     assert_eq!(output.stderr, b"records rewritten: 1, lines: 1\n");
     let answers = second(&["replay"], File::open(&new).unwrap().into());
-    assert_eq!(answers.stdout, b"0 128 64 2 2\n");
+    assert_eq!(answers.stdout, b"0 128 64 2 2 0\n");
     // What is rewritten is not rewritten again.
     let output = second(&["rewrite", names[1], names[0]], Stdio::null());
     assert_eq!(output.status.code(), Some(1));

@@ -29,7 +29,7 @@ bits-is : (terms : Terms) (n : SymbolPlaces) (r : CodedBits) → r ≡ codedBits
 unfolding codedBitsOf
 bits-is terms n r e = ap (λ (x : CodedBits). x .0) e
 
-taken : (st : tie.Start) → planNumber (now (st .args .profile)) (st .args .octets) ≡ 0
+taken : (st : tie.Start) → planNumber (now (st .args .profile)) (st .args .terms .edition) (st .args .octets) ≡ 0
 taken st = cut-passed (now (st .args .profile)) (st .args .octets) (st .args .terms) 0 (st .pre) .0
 
 -- the symbol places that are counted
@@ -40,16 +40,16 @@ module _ (c : tie.After-places-for-all) where
   abbrev R : List ℕ
   R = now (st .args .profile)
 
-  given : Allocated (st .args .terms) 0 (blocks R (blockBits (st .args .octets)))
+  given : Allocated (st .args .terms) 0 (blocks R (st .args .terms .edition) (blockBits (st .args .octets)))
   given = right R (st .args .octets) (st .args .terms) (st .pre)
 
-  counted : c .before .plan-accepted .result .blocks ≡ blocks R (blockBits (st .args .octets))
-  counted = plan-blocks R (st .args .octets) _ (c .before .plan-accepted .ensures) (taken st)
+  counted : c .before .plan-accepted .result .blocks ≡ blocks R (st .args .terms .edition) (blockBits (st .args .octets))
+  counted = plan-blocks R (st .args .terms .edition) (st .args .octets) _ (c .before .plan-accepted .ensures) (taken st)
 
   all : c .places-for-all .result .0 ≡ placesForAll R (blockBits (st .args .octets)) (st .args .terms)
   all =
       c .places-for-all .ensures
-      ∙ ap (λ (b : ℕ). placesForAll R b (st .args .terms)) (plan-bits R (st .args .octets) _ (c .before .plan-accepted .ensures) (taken st))
+      ∙ ap (λ (b : ℕ). placesForAll R b (st .args .terms)) (plan-bits R (st .args .terms .edition) (st .args .octets) _ (c .before .plan-accepted .ensures) (taken st))
 
 -- where they are no more than there may be
 fits : (c : tie.Else1) → c .before .before .before .before .places-for-all .result .0 ≤ 65536 / placeBits (st (c .before .before .before .before) .args .terms)
@@ -81,7 +81,7 @@ module _ (c : tie.After-coded-bits) where
 plan-accepted-requires : tie.Need-plan-accepted-requires
 plan-accepted-requires c κs =
     let st = c .before in
-    plan-passed (now (st .args .profile)) (st .args .octets) (taken st) .0
+    plan-passed (now (st .args .profile)) (st .args .terms .edition) (st .args .octets) (taken st) .0
 
 places-for-all-requires : tie.Need-places-for-all-requires
 places-for-all-requires c κs =

@@ -14,14 +14,14 @@ use Rattle.bits.specs.declared.count.SymbolPlaces.{SymbolPlaces}
 use Rattle.bits.specs.declared.count.Terms.{Terms}
 use Rattle.bits.proofs.Rounding.{ceil-least}
 use Rattle.cutting.specs.Plan.{blocks}
-use Rattle.cutting.proofs.PlanFields.{some-fields}
+use Rattle.cutting.proofs.PlanFields.{of-fields}
 use Rattle.coding.specs.Blocks.{sendable}
 use Rattle.advice.specs.steps.Counting.{placesFor, placesForAll}
 use Rattle.advice.proofs.places_for_all.Statement.{statement}
 use Rattle.advice.proofs.places_for_all.Tie as tie
 
 -- what one block takes, as the code counts it, and that it is no more than its bits
-module _ (R : List ℕ) (b : ℕ) (terms : Terms) (r : ℕ) (n : CodedBits) (mine : SymbolPlaces) (is : n .0 ≡ sendable R b r) (made : mine ≡ symbolPlacesFor terms n) where
+module _ (R : List ℕ) (b : ℕ) (terms : Terms) (r : ℕ) (n : CodedBits) (mine : SymbolPlaces) (is : n .0 ≡ sendable R (terms .edition) b r) (made : mine ≡ symbolPlacesFor terms n) where
   mine-is : mine .0 ≡ placesFor R b terms r
   unfolding symbolPlacesFor placesFor
   mine-is = ap (λ (x : SymbolPlaces). x .0) made ∙ ap (λ (k : ℕ). ceil k (placeBits terms)) is
@@ -42,7 +42,7 @@ unfolding sumBelow
 loop-holds c = (search needs, refl, search needs)
 
 sendable-requires : tie.Need-sendable-requires Inv-loop μ-loop
-sendable-requires c κs = search needs
+sendable-requires c κs = let st = c .before .before .before in record { edition = st .args .terms .edition; of = st .pre .0 }
 
 symbol-places-for-requires : tie.Need-symbol-places-for-requires Inv-loop μ-loop
 symbol-places-for-requires c κs = search needs
@@ -58,19 +58,19 @@ module _ (c : tie.After-struct-known Inv-loop μ-loop) where
   counted : c .before .symbol-places-for .result .0 ≡ placesFor (now (st .args .profile)) (st .args .plan .bits) (st .args .terms) (c .before .before .before .before .loop .r)
   counted =
       mine-is (now (st .args .profile)) (st .args .plan .bits) (st .args .terms) _ (c .before .before .sendable .result) _
-      (c .before .before .sendable .ensures .0) (c .before .symbol-places-for .ensures)
+      (c .before .before .sendable .ensures .0 (st .args .terms .edition) (st .pre .0)) (c .before .symbol-places-for .ensures)
 
   small : c .before .symbol-places-for .result .0 ≤ 4860
   small =
       omega (
         arith,
         mine-most (now (st .args .profile)) (st .args .plan .bits) (st .args .terms) (c .before .before .before .before .loop .r) (c .before .before .sendable .result) _
-            (c .before .before .sendable .ensures .0) (c .before .symbol-places-for .ensures) (st .pre .1 .some),
+            (c .before .before .sendable .ensures .0 (st .args .terms .edition) (st .pre .0)) (c .before .symbol-places-for .ensures) (st .pre .1 .some),
         c .before .before .sendable .ensures .1,
       )
 
   blocks-few : st .args .plan .blocks ≤ 64
-  blocks-few = let k = some-fields (now (st .args .profile)) (st .args .plan) (st .pre .0) in omega (arith, k .blocks-is, k .cut .most)
+  blocks-few = let k = of-fields (now (st .args .profile)) (st .args .terms .edition) (st .args .plan) (st .pre .0) in omega (arith, k .blocks-is, k .cut .most)
 
 add-all : tie.Need-add-all Inv-loop μ-loop
 add-all c = omega (arith, small c, few c, blocks-few c, c .before .before .before .before .loop .inv .2)
@@ -92,8 +92,8 @@ unfolding placesForAll
 returns c =
     let st = c .before .before .before in
     let l = c .before .loop in
-    let k = some-fields (now (st .args .profile)) (st .args .plan) (st .pre .0) in
-    let end : l .r ≡ blocks (now (st .args .profile)) (st .args .plan .bits) = omega (arith, k .blocks-is, l .inv .0, c) in
+    let k = of-fields (now (st .args .profile)) (st .args .terms .edition) (st .args .plan) (st .pre .0) in
+    let end : l .r ≡ blocks (now (st .args .profile)) (st .args .terms .edition) (st .args .plan .bits) = omega (arith, k .blocks-is, l .inv .0, c) in
     l .inv .1 ∙ ap (λ (n : ℕ). sumBelow n (placesFor (now (st .args .profile)) (st .args .plan .bits) (st .args .terms))) end
 
 pub places-for-all-spec : {M : Type 1} → statement M

@@ -13,7 +13,7 @@ refusal n = record { number = n; bits = record { 0 = 0 }; blocks = 0; larger = 0
 
 -- the symbol places that block r's N takes, and those that all blocks take together; b is B
 unfoldable pub placesFor : List ℕ → ℕ → Terms → ℕ → ℕ
-placesFor R b terms r = ceil (sendable R b r) (placeBits terms)
+placesFor R b terms r = ceil (sendable R (terms .edition) b r) (placeBits terms)
 
 unfoldable pub placesForAll : List ℕ → ℕ → Terms → ℕ
-placesForAll R b terms = sumBelow (blocks R b) (placesFor R b terms)
+placesForAll R b terms = sumBelow (blocks R (terms .edition) b) (placesFor R b terms)

@@ -46,11 +46,11 @@ size c = c .before .before .before .before .before .plan-accepted .result .bits
 size-is : (c : tie.Else1) → size c ≡ blockBits (start c .args .octets)
 size-is c =
     let plan = c .before .before .before .before .before .plan-accepted in
-    bits-is (profile c) (start c .args .octets) (plan .result) (plan .ensures) (start c .pre .0 .taken)
+    bits-is (profile c) (start c .args .terms .edition) (start c .args .octets) (plan .result) (plan .ensures) (start c .pre .0 .taken)
 
 roomy : (c : tie.Else1) → size c ≤ length (room c)
 unfolding blockBits
-roomy c = omega (arith, size-is c, plan-passed (profile c) (start c .args .octets) (start c .pre .0 .taken) .2, start c .pre .1, c .before .before .before .rebuild-bits .kept)
+roomy c = omega (arith, size-is c, plan-passed (profile c) (start c .args .terms .edition) (start c .args .octets) (start c .pre .0 .taken) .2, start c .pre .1, c .before .before .before .rebuild-bits .kept)
 
 rebuilt : (c : tie.Else1)
     → (radioBits (profile c) (blockBits (start c .args .octets)) (transported c) (start c .args .terms) (length (received c)) ≡ received c)
@@ -72,12 +72,12 @@ long c = gathered-length (profile c) (blockBits (start c .args .octets)) (start 
 
 -- there is room for the block
 short : (c : tie.Else1) → start c .args .octets ≤ length (now (start c .args .block))
-short c = omega (arith, plan-passed (profile c) (start c .args .octets) (start c .pre .0 .taken) .2, start c .pre .2)
+short c = omega (arith, plan-passed (profile c) (start c .args .terms .edition) (start c .args .octets) (start c .pre .0 .taken) .2, start c .pre .2)
 
 plan-accepted-requires : tie.Need-plan-accepted-requires
 plan-accepted-requires c κs =
     let st = c .before .before .before .before .before in
-    plan-passed (now (st .args .profile)) (st .args .octets) (st .pre .0 .taken) .0
+    plan-passed (now (st .args .profile)) (st .args .terms .edition) (st .args .octets) (st .pre .0 .taken) .0
 
 rebuild-bits-requires : tie.Need-rebuild-bits-requires
 rebuild-bits-requires c κs =
@@ -92,7 +92,7 @@ returns c =
     let st = c .before .before .before .before .before .before .before .before .before .before .before in
     let a = st .args in
     let plan = c .before .before .before .before .before .plan-accepted in
-    let count : plan .result .bits ≡ blockBits (a .octets) = bits-is (now (a .profile)) (a .octets) (plan .result) (plan .ensures) (st .pre .0 .taken) in
+    let count : plan .result .bits ≡ blockBits (a .octets) = bits-is (now (a .profile)) (a .terms .edition) (a .octets) (plan .result) (plan .ensures) (st .pre .0 .taken) in
     let told = rw count at (c .before .before .before .rebuild-bits .ensures .other (not-true _ (c .if1 .taken))) in
     decided-unsent (now (a .profile)) (a .octets) (a .terms) (now (a .bits)) (st .pre .0) (λ all sum. told all) (now (a .out))
 

@@ -24,7 +24,7 @@ plan-accepted-requires c κs =
     let R = now (a .profile) in
     let block = now (a .block) in
     let ok = request-passed R (length block) (a .terms) (a .g .0) (a .g .0) (length (now (a .out))) (st .pre .0) in
-    plan-passed R (length block) (ok .0) .0
+    plan-passed R (a .terms .edition) (length block) (ok .0) .0
 
 attach-requires : tie.Need-attach-requires
 unfolding blockBits
@@ -34,7 +34,7 @@ attach-requires c κs =
     let R = now (a .profile) in
     let block = now (a .block) in
     let ok = request-passed R (length block) (a .terms) (a .g .0) (a .g .0) (length (now (a .out))) (st .pre .0) in
-    let most = plan-passed R (length block) (ok .0) .2 in
+    let most = plan-passed R (a .terms .edition) (length block) (ok .0) .2 in
     (most, omega (arith, most, st .pre .1))
 
 slice-reshare-prefix-send-bits : tie.Need-slice-reshare-prefix-send-bits
@@ -47,8 +47,8 @@ slice-reshare-prefix-send-bits c =
     let ok = request-passed R (length block) (a .terms) (a .g .0) (a .g .0) (length (now (a .out))) (st .pre .0) in
     let plan = c .before .before .before .before .plan-accepted in
     let attach = c .before .before .attach in
-    let count : plan .result .bits ≡ blockBits (length block) = bits-is R (length block) (plan .result) (plan .ensures) (ok .0) in
-    let most = plan-passed R (length block) (ok .0) .2 in
+    let count : plan .result .bits ≡ blockBits (length block) = bits-is R (a .terms .edition) (length block) (plan .result) (plan .ensures) (ok .0) in
+    let most = plan-passed R (a .terms .edition) (length block) (ok .0) .2 in
     omega (arith, count, most, st .pre .1, attach .kept .1 .0)
 
 slice-aggregate-send-bits : tie.Need-slice-aggregate-send-bits
@@ -61,8 +61,8 @@ slice-aggregate-send-bits c =
     let ok = request-passed R (length block) (a .terms) (a .g .0) (a .g .0) (length (now (a .out))) (st .pre .0) in
     let plan = c .before .before .before .before .before .plan-accepted in
     let attach = c .before .before .before .attach in
-    let count : plan .result .bits ≡ blockBits (length block) = bits-is R (length block) (plan .result) (plan .ensures) (ok .0) in
-    let most = plan-passed R (length block) (ok .0) .2 in
+    let count : plan .result .bits ≡ blockBits (length block) = bits-is R (a .terms .edition) (length block) (plan .result) (plan .ensures) (ok .0) in
+    let most = plan-passed R (a .terms .edition) (length block) (ok .0) .2 in
     sym (length-take-le (plan .result .bits) (attach .last .1 .0) (omega (arith, count, most, st .pre .1, attach .kept .1 .0)))
 
 send-bits-requires : tie.Need-send-bits-requires
@@ -75,13 +75,13 @@ send-bits-requires c κs =
     let ok = request-passed R (length block) (a .terms) (a .g .0) (a .g .0) (length (now (a .out))) (st .pre .0) in
     let plan = c .before .before .before .before .before .before .plan-accepted in
     let attach = c .before .before .before .before .attach in
-    let count : plan .result .bits ≡ blockBits (length block) = bits-is R (length block) (plan .result) (plan .ensures) (ok .0) in
-    let most = plan-passed R (length block) (ok .0) .2 in
+    let count : plan .result .bits ≡ blockBits (length block) = bits-is R (a .terms .edition) (length block) (plan .result) (plan .ensures) (ok .0) in
+    let most = plan-passed R (a .terms .edition) (length block) (ok .0) .2 in
     let same : take (plan .result .bits) (attach .last .1 .0) ≡ transport block =
     ap (take (plan .result .bits)) (attach .ensures) ∙ front-set (now (a .bits)) (transport block) (plan .result .bits) (length-transport block ∙ sym count) (omega (arith, count, most, st .pre .1)) in
-    let some : 0 < plan .result .blocks = omega (arith, blocks-are R (length block) (plan .result) (plan .ensures) (ok .0), plan-cut R (length block) (ok .0) .some) in
+    let some : 0 < plan .result .blocks = omega (arith, blocks-are R (a .terms .edition) (length block) (plan .result) (plan .ensures) (ok .0), plan-cut R (a .terms .edition) (length block) (ok .0) .some) in
     record {
-      ready = rw same (ready-transport R block (plan .result) (ok .0) (plan .ensures));
+      ready = rw same (ready-transport R (a .terms .edition) block (plan .result) (ok .0) (plan .ensures));
       version = ok .3;
       allocated = allocated (a .terms) (a .g .0) (plan .result .blocks) (ok .1) some;
       room = ok .2;
@@ -103,8 +103,8 @@ returns c =
     let ok = request-passed R (length block) (a .terms) (a .g .0) (a .g .0) (length (now (a .out))) (st .pre .0) in
     let plan = c .before .before .before .before .before .before .before .before .before .plan-accepted in
     let attach = c .before .before .before .before .before .before .before .attach in
-    let count : plan .result .bits ≡ blockBits (length block) = bits-is R (length block) (plan .result) (plan .ensures) (ok .0) in
-    let most = plan-passed R (length block) (ok .0) .2 in
+    let count : plan .result .bits ≡ blockBits (length block) = bits-is R (a .terms .edition) (length block) (plan .result) (plan .ensures) (ok .0) in
+    let most = plan-passed R (a .terms .edition) (length block) (ok .0) .2 in
     let same : take (plan .result .bits) (attach .last .1 .0) ≡ transport block =
     ap (take (plan .result .bits)) (attach .ensures) ∙ front-set (now (a .bits)) (transport block) (plan .result .bits) (length-transport block ∙ sym count) (omega (arith, count, most, st .pre .1)) in
     let sent = c .before .before .send-bits in

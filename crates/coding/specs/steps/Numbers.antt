@@ -11,11 +11,11 @@ use Rattle.bits.specs.declared.count.Terms.{Terms}
 use Rattle.coding.specs.Receiving.{someWithoutRoom}
 use Rattle.coding.specs.Promises.{cutConditions, requestConditions, notOctets}
 
--- 5 to 9 and 16
+-- 5 to 9, 16 and 19
 unfoldable pub cutNumber : List ℕ → ℕ → Terms → ℕ → ℕ
 cutNumber R octets terms g = answered (cutConditions R (not (within 1 2048 octets)) octets terms g)
 
--- 5 to 11 and 16. `need` octets are to be written: G, or A/8 where bits are received
+-- 5 to 11, 16 and 19. `need` octets are to be written: G, or A/8 where bits are received
 unfoldable pub requestNumber : List ℕ → ℕ → Terms → ℕ → ℕ → ℕ → ℕ
 requestNumber R octets terms g need room = answered (requestConditions R (not (within 1 2048 octets)) octets terms g need room)
 
@@ -23,7 +23,7 @@ requestNumber R octets terms g need room = answered (requestConditions R (not (w
 unfoldable pub octetsOf : ℕ → ℕ
 octetsOf a = cond (eqb (a % 8) 0) (a / 8) 0
 
--- 5 to 13 and 16, all of receiveNumber but 14
+-- 5 to 13, 16 and 19, all of receiveNumber but 14
 unfoldable pub receptionNumber : List ℕ → ℕ → Terms → List ℕ → ℕ → ℕ
 receptionNumber R a terms bits room =
     answered

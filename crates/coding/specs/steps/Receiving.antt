@@ -9,7 +9,7 @@ use Rattle.bits.specs.Ranges.{sumBelow}
 use Rattle.bits.specs.declared.number.Written.{Written}
 use Rattle.bits.specs.declared.count.Terms.{Terms}
 use Rattle.profile.specs.Record.{kind, z, columns}
-use Rattle.cutting.specs.Plan.{blockBits, blocks, ownBits, sizeIndex, places}
+use Rattle.cutting.specs.Plan.{blockBits, blocks, ownBits, carriedBits, sizeIndex, places}
 use Rattle.cutting.specs.Promises.{planNumber, planned}
 use Rattle.cutting.specs.declared.Plan.{Plan}
 use Rattle.matching.specs.Matching.{misversioned}
@@ -26,23 +26,29 @@ shareStart terms g c r = sumBelow r (λ i. share terms g c i .0)
 
 -- that stretch
 unfoldable pub stretch : List ℕ → ℕ → Terms → List ℕ → ℕ → List ℕ
-stretch R b terms bits r = take (share terms (length bits) (blocks R b) r .0) (drop (shareStart terms (length bits) (blocks R b) r) bits)
+stretch R b terms bits r =
+    take (share terms (length bits) (blocks R (terms .edition) b) r .0) (drop (shareStart terms (length bits) (blocks R (terms .edition) b) r) bits)
 
--- block r's own bits stand at the beginning of its stretch, once that is in line; b is the count of transport bits
+-- what block r carries stands at the beginning of its stretch, once that is in line; b is the count of transport bits
+unfoldable pub carriedReceived : List ℕ → ℕ → Terms → List ℕ → ℕ → List ℕ
+carriedReceived R b terms bits r =
+    take (carriedBits R (terms .edition) b r)
+    (heard (carriedBits R (terms .edition) b r) (places R (terms .edition) b) (versionStart R b terms) (columns R * z R (sizeIndex R (terms .edition) b))
+    (stretch R b terms bits r))
+
+-- its own bits in front of their checksum
 unfoldable pub ownReceived : List ℕ → ℕ → Terms → List ℕ → ℕ → List ℕ
-ownReceived R b terms bits r =
-    take (ownBits b (blocks R b) r)
-    (heard (ownBits b (blocks R b) r) (places R b) (versionStart R b terms) (columns R * z R (sizeIndex R b)) (stretch R b terms bits r))
+ownReceived R b terms bits r = take (ownBits b (blocks R (terms .edition) b) r) (carriedReceived R b terms bits r)
 
 -- the transport bits that the received bits can only have been sent for
 unfoldable pub gathered : List ℕ → ℕ → Terms → List ℕ → List ℕ
-gathered R b terms bits = joined (blocks R b) (ownReceived R b terms bits)
+gathered R b terms bits = joined (blocks R (terms .edition) b) (ownReceived R b terms bits)
 
 -- received bits that no number before 14 refuses, for a block of so many octets
 pub record Receivable (R : List ℕ) (octets : ℕ) (terms : Terms) (bits : List ℕ) : Type 0 where
-  pub taken : planNumber R octets ≡ 0
+  pub taken : planNumber R (terms .edition) octets ≡ 0
   pub version : misversioned (kind R) (terms .rv) ≡ false
-  pub allocated : Allocated terms (length bits) (blocks R (blockBits octets))
+  pub allocated : Allocated terms (length bits) (blocks R (terms .edition) (blockBits octets))
   pub single : AreBits bits
   pub room : someWithoutRoom R octets terms (length bits) ≡ false
 
@@ -50,7 +56,7 @@ pub record Receivable (R : List ℕ) (octets : ℕ) (terms : Terms) (bits : List
 pub record ReceivablePlan (R : List ℕ) (terms : Terms) (bits : List ℕ) (p : Plan) : Type 0 where
   pub octets : ℕ
   pub receivable : Receivable R octets terms bits
-  pub plan : p ≡ planned R octets
+  pub plan : p ≡ planned R (terms .edition) octets
 
 -- the gathered bits are sent as the received ones, and stand in front of room; or they are not
 pub record Rebuilt (R : List ℕ) (terms : Terms) (bits : List ℕ) (b : ℕ) (r : Bool) (room : List ℕ) : Type 0 where

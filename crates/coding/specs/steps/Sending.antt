@@ -12,13 +12,13 @@ use Rattle.cutting.specs.steps.Plans.{Ready}
 use Rattle.matching.specs.Matching.{startOf, misversioned}
 use Rattle.coding.specs.steps.Shares.{Allocated}
 
--- the place from which every block of b transport bits is sent: all their coded words are as long
+-- the place from which every block of b transport bits is sent in the terms' edition: all their coded words are as long
 unfoldable pub versionStart : List ℕ → ℕ → Terms → ℕ
-versionStart R b terms = startOf (kind R) (terms .rv) (columns R * z R (sizeIndex R b))
+versionStart R b terms = startOf (kind R) (terms .rv) (columns R * z R (sizeIndex R (terms .edition) b))
 
 -- transport bits that are to be sent as g bits into out
 pub record Sendable (R : List ℕ) (p : Plan) (bits : List ℕ) (terms : Terms) (g : ℕ) (out : List ℕ) : Type 0 where
-  pub ready : Ready R bits p
+  pub ready : Ready R (terms .edition) bits p
   pub version : misversioned (kind R) (terms .rv) ≡ false
   pub allocated : Allocated terms g (p .blocks)
   pub room : g ≤ length out

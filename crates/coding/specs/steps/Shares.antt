@@ -21,4 +21,5 @@ pub record Allocated (terms : Terms) (g c : ℕ) : Type 0 where
 
 -- some block's share is below N, where b is B
 abbrev pub lackingRoom : List ℕ → ℕ → Terms → ℕ → Bool
-lackingRoom R b terms g = anyBelow (blocks R b) (λ r. ltb (share terms g (blocks R b) r .0) (sendable R b r))
+lackingRoom R b terms g =
+    anyBelow (blocks R (terms .edition) b) (λ r. ltb (share terms g (blocks R (terms .edition) b) r .0) (sendable R (terms .edition) b r))

@@ -19,8 +19,8 @@ returns c =
     let R = now (a .profile) in
     let n = c .before .before .judge in
     let refused : judged R ≡ 0 → ⊥ = λ q. c .before .if1 .taken (n .ensures ∙ q) in
-    let number = n .ensures ∙ sym (plan-unjudged R (a .octets) refused) in
-    rw (c .refused .ensures) (refused-planned R (a .octets) (n .result) number (c .before .if1 .taken))
+    let number = n .ensures ∙ sym (plan-unjudged R (a .edition) (a .octets) refused) in
+    rw (c .refused .ensures) (refused-planned R (a .edition) (a .octets) (n .result) number (c .before .if1 .taken))
 
 plan-accepted-requires : tie.Need-plan-accepted-requires
 plan-accepted-requires c κs = cc

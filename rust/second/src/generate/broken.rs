@@ -294,9 +294,10 @@ type Picked = fn(&mut Random) -> &'static [u8];
 fn about_its_options(kind: &Kind, random: &mut Random) -> Vec<u8> {
     let mut words = random.pick(&[Kind::done, Kind::refused, words_at_the_edge])(kind, random);
     words.truncate(1 + kind.form.words.len());
-    let about: [(&str, Picked); 3] = [
+    let about: [(&str, Picked); 4] = [
         ("by", checker_words),
         ("rv", version_words),
+        ("ed", edition_words),
         ("type", type_words),
     ];
     let has = |name: &str| kind.form.options.iter().any(|option| option.name() == name);
@@ -314,7 +315,7 @@ fn about_its_options(kind: &Kind, random: &mut Random) -> Vec<u8> {
 /// The optional word for the checker, and what is close to it: another value, another name, another
 /// form, and more words than one.
 fn checker_words(random: &mut Random) -> &'static [u8] {
-    let words: [&[u8]; 22] = [
+    let words: [&[u8]; 23] = [
         b"by=quick",
         b"by=plain",
         b"by=slow",
@@ -333,6 +334,7 @@ fn checker_words(random: &mut Random) -> &'static [u8] {
         b"rv=0",
         b"by=plain rv=0",
         b"rv=0 by=plain",
+        b"by=plain type=1",
         b"by=plain by=plain",
         b"by=quick by=plain",
         b"by=slow by=plain",
@@ -376,6 +378,47 @@ fn version_words(random: &mut Random) -> &'static [u8] {
         b"by=slow rv=q",
         b"rv=1 type=2",
         b"rv=0 -",
+    ];
+    random.pick(&words)
+}
+
+/// The same for the edition.
+fn edition_words(random: &mut Random) -> &'static [u8] {
+    let words: [&[u8]; 34] = [
+        b"ed=1",
+        b"ed=2",
+        b"ed=0",
+        b"ed=3",
+        b"ed=4",
+        b"ed=00000000000000000000000000000002",
+        b"ed=18446744073709551615",
+        b"ed=18446744073709551616",
+        b"ed=18446744073709551617",
+        b"ed=18446744073709551618",
+        b"ed=",
+        b"ed==",
+        b"ed=-",
+        b"ed=+2",
+        b"ed=-1",
+        b"ed=2=",
+        b"ed=0x2",
+        b"ed=two",
+        b"ED=2",
+        b"ed",
+        b"ed 2",
+        b"edition=2",
+        b"ed=2 ed=2",
+        b"ed=1 ed=2",
+        b"ed=q ed=2",
+        b"ed=2 q=1",
+        b"ed=2 rv=0",
+        b"rv=4 ed=3",
+        b"ed=q rv=q",
+        b"ed=2 by=plain",
+        b"by=slow ed=q",
+        b"by=plain ed=3 rv=0",
+        b"ed=2 type=2",
+        b"ed=2 -",
     ];
     random.pick(&words)
 }
@@ -495,7 +538,7 @@ mod tests {
     #[test]
     fn words_about_options_are_errors_or_not() {
         let mut random = Random::new(2);
-        assert_eq!(with_options().count(), 7);
+        assert_eq!(with_options().count(), 8);
         for kind in with_options() {
             let name = kind.name;
             let lines: Vec<_> = (0..1000)
@@ -518,7 +561,7 @@ mod tests {
         let mut ending_so = lines
             .iter()
             .filter(|line| line.ends_with(ending.as_bytes()));
-        ending_so.any(|line| answer(line).unwrap().starts_with(text))
+        ending_so.any(|line| answer(line).is_some_and(|answer| answer.starts_with(text)))
     }
 
     #[test]
@@ -533,7 +576,7 @@ mod tests {
                 " by=Plain",
                 " by=plain by=plain",
                 " by=quick by=plain",
-                " ed=1",
+                " by=plain type=1",
             ] {
                 assert!(
                     is_answered(&lines, ending, "error words"),
@@ -557,13 +600,37 @@ mod tests {
             let lines: Vec<_> = (0..4000).map(|_| line(kind, &mut random)).collect();
             for (ending, text) in [
                 (" rv=0 rv=1", "error words"),
-                (" rv=0 ed=1", "error words"),
+                (" rv=0 q=1", "error words"),
                 (" RV=0", "error words"),
                 (" rv=", "error number"),
                 (" rv=-1", "error number"),
                 (" rv=18446744073709551616", "error number"),
                 (" rv=18446744073709551615", "16 "),
                 (" rv=4", "16 "),
+            ] {
+                assert!(is_answered(&lines, ending, text), "{name}: {ending}");
+            }
+        }
+    }
+
+    #[test]
+    fn an_edition_is_asked_for_wrongly_in_every_way() {
+        let mut random = Random::new(6);
+        for name in ["plan", "send", "recv", "hsend", "hrecv"] {
+            let kind = named(name.as_bytes()).unwrap();
+            let lines: Vec<_> = (0..5000).map(|_| line(kind, &mut random)).collect();
+            for (ending, text) in [
+                (" ed=1 ed=2", "error words"),
+                (" edition=2", "error words"),
+                (" ed=2 type=2", "error words"),
+                (" ED=2", "error words"),
+                (" ed=", "error number"),
+                (" ed=-1", "error number"),
+                (" ed=18446744073709551616", "error number"),
+                (" ed=18446744073709551615", "19 "),
+                (" ed=0", "19 "),
+                (" ed=3", "19 "),
+                (" ed=2", "0 "),
             ] {
                 assert!(is_answered(&lines, ending, text), "{name}: {ending}");
             }

@@ -2,7 +2,7 @@
 
 use super::makers::Makers;
 use super::parity::{self, Block};
-use super::records::{good, like};
+use super::records::{like, to_cut};
 use super::recv::{self, Receiving};
 use super::send::{self, Sending};
 use super::shelf::{any_record, of_length, refused_record, Shelves};
@@ -32,7 +32,7 @@ pub const LOOKUP: Makers = Makers {
 
 pub const HSEND: Makers = Makers {
     done: |random| {
-        let draft = good(random);
+        let draft = to_cut(random);
         let sending = Sending::drawn(&draft, random);
         hsend(&Shelves::with(&draft.octets(), random), &sending, random)
     },
@@ -46,7 +46,7 @@ pub const HSEND: Makers = Makers {
 
 pub const HRECV: Makers = Makers {
     done: |random| {
-        let draft = good(random);
+        let draft = to_cut(random);
         let receiving = Receiving::drawn(&draft, random);
         hrecv(&Shelves::with(&draft.octets(), random), &receiving, random)
     },

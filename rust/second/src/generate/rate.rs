@@ -47,7 +47,7 @@ fn rate(e: u64, places: &[u8], length: usize, asked: Asked, random: &mut Random)
     let mut optional =
         |name, held: Option<u64>| held.map(|held| write::optional(name, held, random));
     let (coding, rv) = (optional("type", asked.coding), optional("rv", asked.rv));
-    words.extend(write::in_any_order(coding, rv, random));
+    words.extend(write::in_any_order([coding, rv], random));
     words
 }
 

@@ -57,10 +57,59 @@ pub fn small(random: &mut Random) -> Draft {
     drawn(3, 4, 4, 6, random)
 }
 
+/// A record that is accepted, to cut blocks with: one whose code blocks can carry a checksum as often as not, and
+/// some at the edge of that.
+pub fn to_cut(random: &mut Random) -> Draft {
+    match random.below(20) {
+        0..=1 => at_the_edge(random),
+        2..=9 => summed(random),
+        _ => good(random),
+    }
+}
+
+/// A record with a Kmax somewhat over 24: in edition 2 few octets are cut already, and each code block has room for
+/// its checksum and some bits more. With Kmax 32, 40 and 48 one block may be just enough, with 31, 39 and 47 just
+/// not.
+pub fn summed(random: &mut Random) -> Draft {
+    let any = 27 + random.below(46);
+    let kmax = random.pick(&[25, 26, 31, 32, 39, 40, 47, 48, any, any, any, any]);
+    with_kmax(kmax, random)
+}
+
+/// A record with a Kmax of 24, which is refused in edition 2, of 25, which has room for one bit, or beside them.
+pub fn at_the_edge(random: &mut Random) -> Draft {
+    let kmax = random.pick(&[23, 24, 24, 24, 25, 25, 25, 26]);
+    with_kmax(kmax, random)
+}
+
+/// A record with this Kmax, and mostly with smaller sizes beside the largest.
+fn with_kmax(kmax: usize, random: &mut Random) -> Draft {
+    let pairs: Vec<(usize, usize)> = (1..=20)
+        .filter(|kb| kmax % kb == 0 && kmax / kb <= 81)
+        .map(|kb| (kb, kmax / kb))
+        .collect();
+    let (kb, largest) = random.pick(&pairs);
+    let near = largest - random.below(largest.min(4));
+    let any = 1 + random.below(largest);
+    let mut sizes: Vec<u16> = match random.below(4) {
+        0 => vec![],
+        1 => vec![short(any)],
+        _ => vec![short(any), short(near)],
+    };
+    sizes.push(short(largest));
+    sizes.sort_unstable();
+    sizes.dedup();
+    let m = short(3 + random.below(2));
+    let x = short(random.below(3));
+    let kb = short(kb);
+    let shape = random.pick(&[Shape::type_1(kb, m), Shape::type_2(kb, m, x)]);
+    with_sizes(shape, &sizes, random)
+}
+
 /// A record of Type 2 that is accepted and mostly has an extension.
 pub fn extended(random: &mut Random) -> Draft {
     loop {
-        let draft = good(random);
+        let draft = to_cut(random);
         if draft.coding == 2 && (draft.x > 0 || random.one_in(4)) {
             return draft;
         }

@@ -1,22 +1,27 @@
 //! Requests `recv`: bits as they were sent, the same with each kind of damage, and each refusal at
 //! its boundary.
 
+mod sums;
+
 use super::crc::spoil;
 use super::makers::Makers;
-use super::records::{bad, extended, good, largest};
+use super::profile::other_edition;
+use super::records::{bad, extended, largest, to_cut};
 use super::send::{
     allocation, octets, one_too_many, other_version, small, spare, spoil_allocation, Cut, Sending,
 };
 use super::write::{self, Words};
 use crate::draft::Draft;
 use crate::random::Random;
+#[cfg(test)]
+use crate::receive::Received;
 use crate::receive::{has_room, order, unmarked_places};
 use crate::samples::TOY;
 use crate::transfer::{Asked, Transfer};
 
 pub const RECV: Makers = Makers {
     done: |random| {
-        let draft = good(random);
+        let draft = to_cut(random);
         let receiving = Receiving::drawn(&draft, random);
         request(&draft.octets(), &receiving, random)
     },
@@ -66,6 +71,19 @@ impl Receiving {
         }
     }
 
+    /// What the receiver is given.
+    #[cfg(test)]
+    fn received(&self) -> Received<'_> {
+        Received {
+            a: self.a,
+            layers: self.asked.layers,
+            order: self.asked.order,
+            rv: self.asked.rv,
+            ed: self.asked.ed,
+            bits: &self.bits,
+        }
+    }
+
     /// The words after the record, or after the shelves.
     pub fn words(&self, random: &mut Random) -> Vec<Vec<u8>> {
         let mut words = vec![
@@ -76,8 +94,9 @@ impl Receiving {
             write::count(self.length, random),
         ];
         let version = write::version(self.asked.rv, random);
+        let edition = write::edition(self.asked.ed, random);
         let checker = write::checker(random);
-        words.extend(write::in_any_order(version, checker, random));
+        words.extend(write::in_any_order([version, edition, checker], random));
         words
     }
 }
@@ -92,10 +111,11 @@ fn request(record: &[u8], receiving: &Receiving, random: &mut Random) -> Words {
 /// symbol places as may be, or some more.
 fn sending_with_room(draft: &Draft, random: &mut Random) -> Sending {
     let mut sending = Sending::drawn(draft, random);
-    let mut cut = Cut::of(draft, sending.block.len() as u64);
+    let Asked { rv, ed, .. } = sending.asked;
+    let mut cut = Cut::of(draft, sending.block.len() as u64, ed);
     if !cut.fits() {
         sending.block.truncate(1);
-        cut = Cut::of(draft, 1);
+        cut = Cut::of(draft, 1, ed);
     }
     let blocks = cut.blocks();
     let places = |least: u64, random: &mut Random| {
@@ -104,7 +124,8 @@ fn sending_with_room(draft: &Draft, random: &mut Random) -> Sending {
         least + whole + spare(blocks, random)
     };
     sending.asked = Asked {
-        rv: sending.asked.rv,
+        rv,
+        ed,
         ..allocation(&cut, places, random)
     };
     sending
@@ -114,7 +135,8 @@ fn sending_with_room(draft: &Draft, random: &mut Random) -> Sending {
 /// last block which needs a spare place, or all of them.
 fn sending_without_room(draft: &Draft, random: &mut Random) -> Sending {
     let mut sending = Sending::drawn(draft, random);
-    let cut = Cut::of(draft, sending.block.len() as u64);
+    let Asked { rv, ed, .. } = sending.asked;
+    let cut = Cut::of(draft, sending.block.len() as u64, ed);
     let blocks = cut.blocks();
     let places = |least: u64, random: &mut Random| {
         let any = random.next() % least;
@@ -123,7 +145,8 @@ fn sending_without_room(draft: &Draft, random: &mut Random) -> Sending {
         least - fewer.min(least)
     };
     sending.asked = Asked {
-        rv: sending.asked.rv,
+        rv,
+        ed,
         ..allocation(&cut, places, random)
     };
     sending
@@ -132,19 +155,25 @@ fn sending_without_room(draft: &Draft, random: &mut Random) -> Sending {
 /// A record and what is received with it: one thing is wrong, or two, so that the order of the
 /// numbers is compared.
 pub fn refused(random: &mut Random) -> (Vec<u8>, Receiving) {
-    if random.one_in(12) {
-        return another_version(random);
+    match random.below(24) {
+        0..=1 => return another_version(random),
+        2..=3 => return sums::with_other_sums(random),
+        4..=5 => return sums::across_editions(random),
+        _ => {}
     }
-    let draft = good(random);
+    let draft = to_cut(random);
     let mut record = draft.octets();
     let mut receiving = Receiving::drawn(&draft, random);
-    // Another count of bits and another length are refused with several numbers each, and so drawn more.
-    // With another version stands one of those faults about which it has to be seen where 16 is tested.
-    let faults = match random.below(9) {
-        0 => vec![8],
-        1 => vec![10],
-        2 => vec![12, random.pick(&[10, 11, 13])],
-        _ => random.one_or_two(14),
+    // Another count of bits and another length are refused with several numbers each, and so drawn more;
+    // damage of any kind is refused with one. With another version or another edition stands one of those
+    // faults about which it has to be seen where 16 and 19 are tested.
+    let faults = match random.below(16) {
+        0..=1 => vec![8],
+        2..=3 => vec![10],
+        4 => vec![12, random.pick(&[10, 11, 15])],
+        5 => vec![random.pick(&[10, 11, 12, 15]), 13],
+        6..=7 => vec![random.pick(&[0, 7, 7, 9, 14, 14, 15])],
+        _ => random.one_or_two(16),
     };
     for fault in faults {
         match fault {
@@ -161,6 +190,9 @@ pub fn refused(random: &mut Random) -> (Vec<u8>, Receiving) {
             10 => other_a(&draft, &mut receiving, random),
             11 => spoil_allocation(&mut receiving.asked, random),
             12 => receiving.asked.rv = other_version(&draft, random),
+            13 => receiving.asked.ed = other_edition(random),
+            // With a Kmax up to 24 edition 2 is refused.
+            14 => receiving.asked.ed = 3 - receiving.asked.ed.clamp(1, 2),
             _ => record = bad(random),
         }
     }
@@ -181,8 +213,9 @@ fn transfer(draft: &Draft, receiving: &Receiving) -> Transfer {
     transfer.expect("these bits were sent with it")
 }
 
-/// A systematic place, a parity place or a copy, in the first block, a middle one, the last, or any; a
-/// place of the checksum; and where the spare symbol places end. Without room for them any place.
+/// One of a block's own bits, of its checksum, a parity place or a copy, in the first block, a middle one,
+/// the last, or any; a place of the transport block's checksum; and where the spare symbol places end.
+/// Without room for them any place.
 fn place(transfer: &Transfer, random: &mut Random) -> usize {
     if !has_room(transfer) {
         return random.below(transfer.g);
@@ -190,15 +223,16 @@ fn place(transfer: &Transfer, random: &mut Random) -> usize {
     let plan = &transfer.plan;
     let any = random.below(plan.c);
     let r = random.pick(&[0, plan.c / 2, plan.c - 1, any]);
-    let own = plan.own_bits(r);
+    let (own, carried) = (plan.own_bits(r), plan.carried_bits(r));
     let unmarked = unmarked_places(transfer, r);
     let first = transfer.stretch(r).start;
     let copies = transfer.shares[r] - unmarked;
-    match random.below(5) {
-        0 => first_copy(transfer, r, plan.k + random.below(unmarked - own)),
+    match random.below(6) {
+        0 => first_copy(transfer, r, plan.k + random.below(unmarked - carried)),
         1 if copies > 0 => first + unmarked + random.below(copies),
         2 if longer(transfer) > 0 => spare_place(transfer, random),
         3 => place_of_bit(transfer, plan.b - 1 - random.below(24)),
+        4 if carried > own => first_copy(transfer, r, own + random.below(carried - own)),
         _ => first_copy(transfer, r, random.below(own)),
     }
 }
@@ -264,8 +298,8 @@ fn damage(draft: &Draft, receiving: &mut Receiving, random: &mut Random) {
     }
 }
 
-/// One code block as another transport block has it: all parity rows sum to even numbers, and only
-/// the checksum is not right.
+/// One code block as another transport block has it: all parity rows sum to even numbers, the block's own
+/// checksum is right, and only that of the transport block is not.
 fn mix(draft: &Draft, receiving: &mut Receiving, random: &mut Random) {
     let transfer = transfer(draft, receiving);
     let block = octets(transfer.octets, random);
@@ -314,7 +348,7 @@ fn other_count(draft: &Draft, receiving: &mut Receiving, random: &mut Random) {
 /// Another length of the transport block, or none that there is.
 fn other_a(draft: &Draft, receiving: &mut Receiving, random: &mut Random) {
     let a = receiving.a;
-    let most = 8 * one_too_many(draft) as u64;
+    let most = 8 * one_too_many(draft, receiving.asked.ed) as u64;
     let near = random.pick(&[a - 1, a + 1, a + 4, a + 8, a - 8]);
     let any = random.next();
     let far = random.pick(&[
@@ -336,6 +370,7 @@ fn long(count: usize, random: &mut Random) -> Words {
         order: 2,
         g: count as u64,
         rv: 0,
+        ed: 1,
     };
     let sent = Transfer::new(&TOY, 8, asked).map(|transfer| transfer.sent(&[random.octet()]));
     let receiving = Receiving {
@@ -352,7 +387,7 @@ mod tests {
     use super::{block_of, longer, place, sending_without_room, transfer, Receiving};
     use crate::draft::Draft;
     use crate::random::Random;
-    use crate::receive::{receive, unmarked_places};
+    use crate::receive::{order, receive, unmarked_places};
     use crate::samples::plain;
     use crate::transfer::Transfer;
 
@@ -360,22 +395,19 @@ mod tests {
         plain(2, 4, &[3, 5])
     }
 
+    /// Its blocks carry sums in edition 2.
+    fn summed() -> Draft {
+        plain(2, 3, &[15, 18])
+    }
+
     #[test]
     fn what_is_drawn_is_received() {
         let mut random = Random::new(1);
         for _ in 0..300 {
-            let drawn = Receiving::drawn(&draft(), &mut random);
-            let (layers, order) = (drawn.asked.layers, drawn.asked.order);
+            let draft = random.pick(&[draft, summed])();
+            let drawn = Receiving::drawn(&draft, &mut random);
             let mut output = vec![0; drawn.length];
-            let number = receive(
-                &draft().octets(),
-                drawn.a,
-                layers,
-                order,
-                drawn.asked.rv,
-                &drawn.bits,
-                &mut output,
-            );
+            let number = receive(&draft.octets(), drawn.received(), &mut output);
             assert_eq!(number.map(|count| 8 * count as u64), Ok(drawn.a));
         }
     }
@@ -414,6 +446,24 @@ mod tests {
         assert_eq!(seen, [[true; 3]; 3]);
         assert_eq!(spare, [true; 2]);
         assert!(behind);
+    }
+
+    #[test]
+    fn bits_of_a_blocks_own_checksum_are_damaged() {
+        // In the first block, a middle one, and the last.
+        let mut random = Random::new(4);
+        let mut seen = [0; 3];
+        for _ in 0..1000 {
+            let drawn = Receiving::drawn(&summed(), &mut random);
+            let transfer = transfer(&summed(), &drawn);
+            let (r, offset) = block_of(&transfer, place(&transfer, &mut random));
+            let place = order(&transfer, r)[offset];
+            let plan = &transfer.plan;
+            if (plan.own_bits(r)..plan.carried_bits(r)).contains(&place) {
+                seen[usize::from(r > 0) + usize::from(r + 1 == plan.c)] += 1;
+            }
+        }
+        assert!(seen.iter().all(|&count| count > 20), "{seen:?}");
     }
 
     #[test]

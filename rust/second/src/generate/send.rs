@@ -2,8 +2,8 @@
 //! each refusal at its boundary.
 
 use super::makers::Makers;
-use super::profile::fitting_octets;
-use super::records::{bad, good, largest};
+use super::profile::{fitting_edition, fitting_octets, most_octets, other_edition};
+use super::records::{bad, largest, to_cut};
 use super::write::{self, Words};
 use crate::draft::Draft;
 use crate::plan;
@@ -13,7 +13,7 @@ use crate::transfer::Asked;
 
 pub const SEND: Makers = Makers {
     done: |random| {
-        let draft = good(random);
+        let draft = to_cut(random);
         let sending = Sending::drawn(&draft, random);
         request(&draft.octets(), &sending, random)
     },
@@ -22,16 +22,21 @@ pub const SEND: Makers = Makers {
         request(&record, &sending, random)
     },
     large: &[
-        |random| longest(&half(), 0, random),
+        |random| longest(&half(), 0, 1, random),
         |random| {
             let draft = largest(&[81], random);
-            longest(&draft, random.pick(&[1, 2, 3]), random)
+            longest(&draft, random.pick(&[1, 2, 3]), 1, random)
+        },
+        |random| longest(&half(), 0, 2, random),
+        |random| {
+            let draft = largest(&[81], random);
+            longest(&draft, random.pick(&[0, 1, 2, 3]), 2, random)
         },
     ],
 };
 
 /// The longest block with as many bits as there may be.
-fn longest(draft: &Draft, rv: u64, random: &mut Random) -> Words {
+fn longest(draft: &Draft, rv: u64, ed: u64, random: &mut Random) -> Words {
     let sending = Sending {
         block: octets(2048, random),
         asked: Asked {
@@ -39,6 +44,7 @@ fn longest(draft: &Draft, rv: u64, random: &mut Random) -> Words {
             order: 2,
             g: 65_536,
             rv,
+            ed,
         },
         length: 65_536,
     };
@@ -53,11 +59,17 @@ pub struct Sending {
 }
 
 impl Sending {
-    /// A block that the record takes, and an allocation that it can be sent with: as few symbol places
-    /// as may be, or about as many as have room for all that there is to send, or any number.
+    /// A block that the record takes, and an allocation that it can be sent with, in an edition.
     pub fn drawn(draft: &Draft, random: &mut Random) -> Sending {
-        let count = length(draft, random);
-        let cut = Cut::of(draft, count);
+        let ed = fitting_edition(draft, random);
+        Sending::drawn_in(draft, ed, random)
+    }
+
+    /// The same in this edition: as few symbol places as may be, or about as many as have room for all that
+    /// there is to send, or any number.
+    pub fn drawn_in(draft: &Draft, ed: u64, random: &mut Random) -> Sending {
+        let count = length(draft, ed, random);
+        let cut = Cut::of(draft, count, ed);
         let blocks = cut.blocks();
         let places = |least: u64, random: &mut Random| {
             let any = random.next() % (3 * least);
@@ -67,7 +79,8 @@ impl Sending {
             about + spare(blocks, random)
         };
         let asked = Asked {
-            rv: fitting_version(draft, count, random),
+            rv: fitting_version(draft, count, ed, random),
+            ed,
             ..allocation(&cut, places, random)
         };
         let more = random.pick(&[0, 0, 1, 100]);
@@ -87,20 +100,22 @@ impl Sending {
             write::number(self.asked.g, random),
             write::count(self.length, random),
         ];
-        words.extend(write::version(self.asked.rv, random));
+        let version = write::version(self.asked.rv, random);
+        let edition = write::edition(self.asked.ed, random);
+        words.extend(write::in_any_order([version, edition], random));
         words
     }
 }
 
 /// A redundancy version that goes with the record's type; often one that starts inside filler, where there is
 /// one.
-fn fitting_version(draft: &Draft, octets: u64, random: &mut Random) -> u64 {
+fn fitting_version(draft: &Draft, octets: u64, ed: u64, random: &mut Random) -> u64 {
     if draft.coding == 1 {
         return 0;
     }
-    let plan = plan::plan(&draft.octets(), octets).expect("the record takes this block");
+    let plan = plan::plan(&draft.octets(), octets, ed).expect("the record takes this block");
     let d = usize::from(draft.kb + draft.m + draft.x) * plan.z;
-    let shortest = plan.own_bits(plan.c - 1);
+    let shortest = plan.carried_bits(plan.c - 1);
     let inside = (1..4).filter(|&rv| (shortest..plan.k).contains(&(d / 4 * rv)));
     let inside: Vec<u64> = inside.map(|rv| rv as u64).collect();
     if !inside.is_empty() && !random.one_in(3) {
@@ -126,11 +141,11 @@ pub struct Cut {
 }
 
 impl Cut {
-    /// The cut of a count of octets that the record takes.
-    pub fn of(draft: &Draft, octets: u64) -> Cut {
-        let plan = plan::plan(&draft.octets(), octets).expect("the record takes this block");
+    /// The cut of a count of octets that the record takes in an edition.
+    pub fn of(draft: &Draft, octets: u64, ed: u64) -> Cut {
+        let plan = plan::plan(&draft.octets(), octets, ed).expect("the record takes this block");
         let parity = usize::from(draft.m + draft.x) * plan.z;
-        let unmarked = (0..plan.c).map(|r| (plan.own_bits(r) + parity) as u64);
+        let unmarked = (0..plan.c).map(|r| (plan.carried_bits(r) + parity) as u64);
         Cut {
             unmarked: unmarked.collect(),
         }
@@ -190,6 +205,7 @@ pub fn allocation(
         order,
         g: place * places,
         rv: 0,
+        ed: 1,
     }
 }
 
@@ -203,13 +219,13 @@ pub fn spare(blocks: u64, random: &mut Random) -> u64 {
     random.pick(&[1, blocks / 2, blocks - 1, any])
 }
 
-/// A length that the record takes, and mostly one that is cut: a single block has all of G.
-fn length(draft: &Draft, random: &mut Random) -> u64 {
-    let count = fitting_octets(draft, random);
-    if Cut::of(draft, count).blocks() > 1 || random.one_in(2) {
+/// A length that the record takes in an edition, and mostly one that is cut: a single block has all of G.
+fn length(draft: &Draft, ed: u64, random: &mut Random) -> u64 {
+    let count = fitting_octets(draft, ed, random);
+    if Cut::of(draft, count, ed).blocks() > 1 || random.one_in(3) {
         return count;
     }
-    over(draft, random.pick(&[1, 1, 2])) as u64
+    over(draft, random.pick(&[1, 1, 2]), ed)
 }
 
 pub fn small(number: u64) -> usize {
@@ -236,10 +252,10 @@ pub fn octets(count: usize, random: &mut Random) -> Vec<u8> {
 /// A record and what is sent with it: one thing is wrong, or two, so that the order of the numbers
 /// is compared.
 pub fn refused(random: &mut Random) -> (Vec<u8>, Sending) {
-    let draft = good(random);
+    let draft = to_cut(random);
     let mut record = draft.octets();
     let mut sending = Sending::drawn(&draft, random);
-    for fault in random.one_or_two(7) {
+    for fault in random.one_or_two(9) {
         match fault {
             0 => record = bad(random),
             1 => {
@@ -247,9 +263,15 @@ pub fn refused(random: &mut Random) -> (Vec<u8>, Sending) {
                 sending.block = octets(count, random);
             }
             2 => spoil_allocation(&mut sending.asked, random),
-            3 => sending.block = octets(one_too_many(&draft), random),
+            3 => {
+                let count = one_too_many(&draft, sending.asked.ed);
+                sending.block = octets(count, random);
+            }
             4 => few_places(&draft, &mut sending, random),
             5 => sending.asked.rv = other_version(&draft, random),
+            6 => sending.asked.ed = other_edition(random),
+            // With a Kmax up to 24 edition 2 is refused; with another it mostly gives other bits.
+            7 => sending.asked.ed = 3 - sending.asked.ed.clamp(1, 2),
             _ => {
                 let g = small(sending.asked.g.min(65_536));
                 sending.length = random.pick(&[g.saturating_sub(1), g.saturating_sub(1), g / 2, 0]);
@@ -275,30 +297,30 @@ pub fn spoil_allocation(asked: &mut Asked, random: &mut Random) {
     }
 }
 
-/// One octet more than can be cut into 64 blocks, or the most that there may be.
-pub fn one_too_many(draft: &Draft) -> usize {
-    over(draft, 64).min(2048)
+/// One octet more than can be cut into 64 blocks in an edition, or the most that there may be.
+pub fn one_too_many(draft: &Draft, ed: u64) -> usize {
+    small(over(draft, 64, ed).min(2048))
 }
 
-/// One octet more than can be cut into so many blocks.
-fn over(draft: &Draft, blocks: usize) -> usize {
-    let z = draft.sizes.iter().max().copied().unwrap_or(1);
-    let bits = blocks * usize::from(draft.kb) * usize::from(z);
-    (bits - 24) / 8 + 1
+/// One octet more than can be cut into so many blocks in an edition.
+fn over(draft: &Draft, blocks: u64, ed: u64) -> u64 {
+    most_octets(draft, blocks, ed) + 1
 }
 
 /// One symbol place too few, or none at all.
 fn few_places(draft: &Draft, sending: &mut Sending, random: &mut Random) {
     let count = sending.block.len() as u64;
     let place = sending.asked.layers.min(4) * sending.asked.order.min(6);
-    let blocks = plan::plan(&draft.octets(), count).map_or(1, |plan| plan.c);
+    let plan = plan::plan(&draft.octets(), count, sending.asked.ed);
+    let blocks = plan.map_or(1, |plan| plan.c);
     sending.asked.g = random.pick(&[place * (blocks as u64 - 1), 0]);
 }
 
 #[cfg(test)]
 mod tests {
     use super::{length, Cut};
-    use crate::generate::records::small;
+    use crate::generate::profile::fitting_edition;
+    use crate::generate::records::{small, summed};
     use crate::random::Random;
     use crate::receive::has_room;
     use crate::transfer::{Asked, Transfer};
@@ -308,9 +330,10 @@ mod tests {
         let mut random = Random::new(1);
         let mut uneven = 0;
         for _ in 0..1000 {
-            let draft = small(&mut random);
-            let octets = length(&draft, &mut random);
-            let cut = Cut::of(&draft, octets);
+            let draft = random.pick(&[small, summed])(&mut random);
+            let ed = fitting_edition(&draft, &mut random);
+            let octets = length(&draft, ed, &mut random);
+            let cut = Cut::of(&draft, octets, ed);
             let (layers, order) = cut.layers_and_order(&mut random);
             let least = cut.least(layers * order);
             let transfer = |places: u64| {
@@ -320,6 +343,7 @@ mod tests {
                     order,
                     g,
                     rv: 0,
+                    ed,
                 };
                 Transfer::new(&draft.octets(), 8 * octets, asked)
             };

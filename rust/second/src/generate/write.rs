@@ -85,17 +85,24 @@ pub fn version(rv: u64, random: &mut Random) -> Option<Vec<u8>> {
     Some(optional("rv", rv, random))
 }
 
-/// Two optional words in either order, as far as they are there.
-pub fn in_any_order(
-    left: Option<Vec<u8>>,
-    right: Option<Vec<u8>>,
-    random: &mut Random,
-) -> impl Iterator<Item = Vec<u8>> {
-    let mut words: Vec<Vec<u8>> = left.into_iter().chain(right).collect();
-    if random.one_in(2) {
-        words.reverse();
+/// The optional word for the edition, which may be left out where it is 1.
+pub fn edition(ed: u64, random: &mut Random) -> Option<Vec<u8>> {
+    if ed == 1 && random.one_in(2) {
+        return None;
     }
-    words.into_iter()
+    Some(optional("ed", ed, random))
+}
+
+/// Optional words in any order, as far as they are there.
+pub fn in_any_order<const COUNT: usize>(
+    words: [Option<Vec<u8>>; COUNT],
+    random: &mut Random,
+) -> Vec<Vec<u8>> {
+    let mut words: Vec<Vec<u8>> = words.into_iter().flatten().collect();
+    for place in 1..words.len() {
+        words.swap(place, random.below(place + 1));
+    }
+    words
 }
 
 /// Two digits for each octet, the letters in either case.

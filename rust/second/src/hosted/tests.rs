@@ -3,11 +3,13 @@
 use super::{hosted_check, hosted_receive, hosted_send};
 use crate::draft::ShelfDraft;
 use crate::numbers::{
-    Number, BLOCK_LENGTH, FEW_PLACES, MANY_BLOCKS, NO_BIT, NO_RECORD, OUTPUT, PARAMETER,
+    Number, BLOCK_LENGTH, EDITION, FEW_PLACES, MANY_BLOCKS, NO_BIT, NO_RECORD, OUTPUT, PARAMETER,
     PRIVATE_SHELF, PUBLIC_SHELF, RECORD, SHORT_SHARE, STAIRCASE, TENANT_0, UNSENT, VERSION,
 };
+use crate::receive::Received;
 use crate::samples::{
-    bits_of_hex, no_staircase, plain, EXTENDED, EXTENDED_SENT, FIVE, FIVE_WORD, TOY,
+    bits_of_hex, no_staircase, plain, twenty, EXTENDED, EXTENDED_SENT, FIVE, FIVE_WORD, TOY,
+    TWENTY_SENT,
 };
 use crate::send::send;
 use crate::shelf::Asked;
@@ -18,7 +20,20 @@ const G_128: transfer::Asked = transfer::Asked {
     order: 2,
     g: 128,
     rv: 0,
+    ed: 1,
 };
+
+/// Bits of one octet with N_L 1 and Q_m 2, rv 0 and edition 1.
+fn one_octet(bits: &[u8]) -> Received<'_> {
+    Received {
+        a: 8,
+        layers: 1,
+        order: 2,
+        rv: 0,
+        ed: 1,
+        bits,
+    }
+}
 
 /// Tenants 1 and 2 have a record 7 each, tenant 3 an empty one, and the toy is public record 7.
 fn shelves(tenant: u16, profile: u16) -> Asked {
@@ -42,7 +57,7 @@ fn sent(shelves: &Asked, block: &[u8]) -> Result<Vec<u8>, Number> {
 
 fn received(shelves: &Asked, bits: &[u8]) -> Result<Vec<u8>, Number> {
     let mut output = vec![7; 4];
-    let count = hosted_receive(shelves, 8, 1, 2, 0, bits, &mut output)?;
+    let count = hosted_receive(shelves, one_octet(bits), &mut output)?;
     output.truncate(count);
     Ok(output)
 }
@@ -156,12 +171,7 @@ fn then_the_numbers_of_sending() {
     assert_eq!(sent(&shelves(4, 9), &[0x01]), Err(STAIRCASE));
     assert_eq!(sent(&shelves(4, 7), &[]), Err(BLOCK_LENGTH));
     assert_eq!(sent(&shelves(4, 7), &[0; 14]), Err(MANY_BLOCKS));
-    let asked = |layers, g| transfer::Asked {
-        layers,
-        order: 2,
-        g,
-        rv: 0,
-    };
+    let asked = |layers, g| transfer::Asked { layers, g, ..G_128 };
     let send = |asked| hosted_send(&shelves(4, 7), &[0x01], asked, &mut [0; 127]);
     assert_eq!(send(asked(0, 128)), Err(PARAMETER));
     assert_eq!(send(asked(1, 30)), Err(FEW_PLACES));
@@ -172,7 +182,11 @@ fn then_the_numbers_of_sending() {
 #[test]
 fn then_the_numbers_of_receiving() {
     let receive = |a, bits: &[u8], length: usize| {
-        hosted_receive(&shelves(4, 7), a, 1, 2, 0, bits, &mut vec![0; length])
+        let got = Received {
+            a,
+            ..one_octet(bits)
+        };
+        hosted_receive(&shelves(4, 7), got, &mut vec![0; length])
     };
     assert_eq!(receive(9, &[0; 128], 1), Err(BLOCK_LENGTH));
     assert_eq!(receive(8, &[0; 129], 1), Err(PARAMETER));
@@ -202,7 +216,7 @@ fn a_refusal_changes_nothing() {
     let mut output = [7; 4];
     for shelves in [shelves(0, 7), shelves(1, 10), shelves(3, 7), shelves(4, 9)] {
         assert!(hosted_send(&shelves, &[0x01], G_128, &mut output).is_err());
-        assert!(hosted_receive(&shelves, 8, 1, 2, 0, &[0; 128], &mut output).is_err());
+        assert!(hosted_receive(&shelves, one_octet(&[0; 128]), &mut output).is_err());
     }
     assert_eq!(output, [7; 4]);
 }
@@ -227,16 +241,69 @@ fn a_version_goes_with_the_record_that_is_found() {
         let count = hosted_send(&asked(1), &[0xa5], wanted, &mut output);
         assert_eq!((count, &output), (Ok(176), &bits));
         let mut octets = [7; 1];
-        let received = hosted_receive(&asked(1), 8, 1, 2, rv, &bits, &mut octets);
+        let got = Received {
+            rv,
+            ..one_octet(&bits)
+        };
+        let received = hosted_receive(&asked(1), got, &mut octets);
         assert_eq!((received, octets), (Ok(1), [0xa5]));
         if rv > 0 {
             let count = hosted_send(&asked(2), &[0xa5], wanted, &mut output);
             assert_eq!(count, Err(VERSION));
-            let received = hosted_receive(&asked(2), 8, 1, 2, rv, &bits, &mut octets);
+            let received = hosted_receive(&asked(2), got, &mut octets);
             assert_eq!(received, Err(VERSION));
             // 1 to 4 go before it.
-            let received = hosted_receive(&asked(0), 8, 1, 2, rv, &bits, &mut octets);
+            let received = hosted_receive(&asked(0), got, &mut octets);
             assert_eq!(received, Err(TENANT_0));
+        }
+    }
+}
+
+#[test]
+fn an_edition_goes_with_the_record_that_is_found() {
+    // Tenant 1 has a record with a Kmax of 40, everybody else the toy, which has no edition 2 but for 9.
+    let asked = |tenant| Asked {
+        private: ShelfDraft::new(&[(1, 7, &twenty().octets())]).octets(),
+        public: ShelfDraft::new(&[(0, 7, &TOY)]).octets(),
+        tenant,
+        profile: 7,
+    };
+    for (ed, hex) in (1..).zip(TWENTY_SENT) {
+        let bits = bits_of_hex(hex, 138);
+        let wanted = transfer::Asked {
+            g: 138,
+            ed,
+            ..G_128
+        };
+        let mut output = vec![7; 138];
+        let count = hosted_send(&asked(1), &[1, 2, 3], wanted, &mut output);
+        assert_eq!((count, &output), (Ok(138), &bits));
+        let got = |ed| Received {
+            a: 24,
+            ed,
+            ..one_octet(&bits)
+        };
+        let mut octets = [7; 3];
+        let received = hosted_receive(&asked(1), got(ed), &mut octets);
+        assert_eq!((received, octets), (Ok(3), [1, 2, 3]));
+        let received = hosted_receive(&asked(1), got(3 - ed), &mut octets);
+        assert_eq!(received, Err(UNSENT));
+    }
+    let wanted = |ed| transfer::Asked { ed, ..G_128 };
+    let send = |tenant, ed| hosted_send(&asked(tenant), &[1], wanted(ed), &mut [0; 128]);
+    assert_eq!(send(2, 2), Err(MANY_BLOCKS));
+    for ed in [0, 3, u64::MAX] {
+        // 1 to 4 go before it.
+        assert_eq!(send(0, ed), Err(TENANT_0));
+        for tenant in [1, 2] {
+            assert_eq!(send(tenant, ed), Err(EDITION));
+            let got = Received {
+                a: 9,
+                ed,
+                ..one_octet(&[9])
+            };
+            let received = hosted_receive(&asked(tenant), got, &mut []);
+            assert_eq!(received, Err(EDITION));
         }
     }
 }

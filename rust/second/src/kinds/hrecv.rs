@@ -1,6 +1,6 @@
-//! `hrecv PRIVATE PUBLIC TENANT PROFILE A NL QM BITS OUTLEN rv=0 by=quick|plain`: a lookup, and then `recv`.
+//! `hrecv PRIVATE PUBLIC TENANT PROFILE A NL QM BITS OUTLEN rv=0 ed=1 by=quick|plain`: a lookup, and then `recv`.
 
-use super::parts::{hex, receiving, shelves, written, CHECKER, VERSION};
+use super::parts::{hex, receiving, shelves, written, CHECKER, EDITION, VERSION};
 use super::Kind;
 use crate::errors::Fault;
 use crate::form::{Form, Given, Word};
@@ -22,7 +22,7 @@ pub const KIND: Kind = Kind {
             Word::Bits,
             Word::Length,
         ],
-        options: &[VERSION, CHECKER],
+        options: &[VERSION, EDITION, CHECKER],
     },
     answer,
     makers: HRECV,
@@ -32,8 +32,6 @@ fn answer(mut given: Given) -> Result<String, Fault> {
     let shelves = shelves(&mut given);
     let got = receiving(&mut given);
     written(got.length, hex, |output| {
-        hosted_receive(
-            &shelves, got.a, got.layers, got.order, got.rv, &got.bits, output,
-        )
+        hosted_receive(&shelves, got.received(), output)
     })
 }

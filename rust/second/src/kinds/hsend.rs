@@ -1,6 +1,6 @@
-//! `hsend PRIVATE PUBLIC TENANT PROFILE BLOCK NL QM G OUTLEN rv=0`: a lookup, and then `send`.
+//! `hsend PRIVATE PUBLIC TENANT PROFILE BLOCK NL QM G OUTLEN rv=0 ed=1`: a lookup, and then `send`.
 
-use super::parts::{hex_of_bits, sending, shelves, written, VERSION};
+use super::parts::{hex_of_bits, sending, shelves, written, EDITION, VERSION};
 use super::Kind;
 use crate::errors::Fault;
 use crate::form::{Form, Given, Word};
@@ -22,7 +22,7 @@ pub const KIND: Kind = Kind {
             Word::Number,
             Word::Length,
         ],
-        options: &[VERSION],
+        options: &[VERSION, EDITION],
     },
     answer,
     makers: HSEND,

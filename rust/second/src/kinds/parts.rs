@@ -5,6 +5,7 @@ use crate::form::{Given, Optional};
 use crate::numbers::{Number, DONE};
 use crate::octets::packed;
 use crate::output::lend;
+use crate::receive::Received;
 use crate::shelf;
 use crate::transfer::Asked;
 
@@ -15,6 +16,9 @@ pub const CHECKER: Optional = Optional::one_of("by", &["quick", "plain"]);
 
 /// The redundancy version.
 pub const VERSION: Optional = Optional::number("rv", 0);
+
+/// The edition.
+pub const EDITION: Optional = Optional::number("ed", 1);
 
 /// PRIVATE PUBLIC TENANT PROFILE.
 pub fn shelves(given: &mut Given) -> shelf::Asked {
@@ -33,7 +37,7 @@ pub struct Sending {
     pub length: usize,
 }
 
-/// BLOCK NL QM G OUTLEN rv=0.
+/// BLOCK NL QM G OUTLEN rv=0 ed=1.
 pub fn sending(given: &mut Given) -> Sending {
     Sending {
         block: given.octets(),
@@ -42,6 +46,7 @@ pub fn sending(given: &mut Given) -> Sending {
             order: given.number(),
             g: given.number(),
             rv: given.number_of("rv"),
+            ed: given.number_of("ed"),
         },
         length: given.length(),
     }
@@ -55,9 +60,23 @@ pub struct Receiving {
     pub bits: Vec<u8>,
     pub length: usize,
     pub rv: u64,
+    pub ed: u64,
 }
 
-/// A NL QM BITS OUTLEN rv=0.
+impl Receiving {
+    pub fn received(&self) -> Received<'_> {
+        Received {
+            a: self.a,
+            layers: self.layers,
+            order: self.order,
+            rv: self.rv,
+            ed: self.ed,
+            bits: &self.bits,
+        }
+    }
+}
+
+/// A NL QM BITS OUTLEN rv=0 ed=1.
 pub fn receiving(given: &mut Given) -> Receiving {
     Receiving {
         a: given.number(),
@@ -66,6 +85,7 @@ pub fn receiving(given: &mut Given) -> Receiving {
         bits: given.octets(),
         length: given.length(),
         rv: given.number_of("rv"),
+        ed: given.number_of("ed"),
     }
 }
 

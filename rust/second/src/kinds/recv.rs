@@ -1,6 +1,6 @@
-//! `recv RECORD A NL QM BITS OUTLEN rv=0 by=quick|plain`: the transport block of received bits.
+//! `recv RECORD A NL QM BITS OUTLEN rv=0 ed=1 by=quick|plain`: the transport block of received bits.
 
-use super::parts::{hex, receiving, written, CHECKER, VERSION};
+use super::parts::{hex, receiving, written, CHECKER, EDITION, VERSION};
 use super::Kind;
 use crate::errors::Fault;
 use crate::form::{Form, Given, Word};
@@ -19,7 +19,7 @@ pub const KIND: Kind = Kind {
             Word::Bits,
             Word::Length,
         ],
-        options: &[VERSION, CHECKER],
+        options: &[VERSION, EDITION, CHECKER],
     },
     answer,
     makers: RECV,
@@ -29,8 +29,6 @@ fn answer(mut given: Given) -> Result<String, Fault> {
     let record = given.octets();
     let got = receiving(&mut given);
     written(got.length, hex, |output| {
-        receive(
-            &record, got.a, got.layers, got.order, got.rv, &got.bits, output,
-        )
+        receive(&record, got.received(), output)
     })
 }

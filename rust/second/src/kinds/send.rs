@@ -1,6 +1,6 @@
-//! `send RECORD BLOCK NL QM G OUTLEN rv=0`: the radio bits of a transport block.
+//! `send RECORD BLOCK NL QM G OUTLEN rv=0 ed=1`: the radio bits of a transport block.
 
-use super::parts::{hex_of_bits, sending, written, VERSION};
+use super::parts::{hex_of_bits, sending, written, EDITION, VERSION};
 use super::Kind;
 use crate::errors::Fault;
 use crate::form::{Form, Given, Word};
@@ -19,7 +19,7 @@ pub const KIND: Kind = Kind {
             Word::Number,
             Word::Length,
         ],
-        options: &[VERSION],
+        options: &[VERSION, EDITION],
     },
     answer,
     makers: SEND,

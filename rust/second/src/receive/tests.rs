@@ -2,19 +2,33 @@
 
 use std::ops::RangeInclusive;
 
-use super::receive;
+use super::{receive, Received};
+use crate::checksum::with_checksum;
 use crate::numbers::{
-    Number, BLOCK_LENGTH, FEW_PLACES, MANY_BLOCKS, NO_BIT, OUTPUT, PARAMETER, RECORD, SHORT_SHARE,
-    STAIRCASE, UNSENT, VERSION,
+    Number, BLOCK_LENGTH, EDITION, FEW_PLACES, MANY_BLOCKS, NO_BIT, OUTPUT, PARAMETER, RECORD,
+    SHORT_SHARE, STAIRCASE, UNSENT, VERSION,
 };
 use crate::octets::unpacked;
+use crate::parity::FILLER;
 use crate::random::Random;
 use crate::samples::{
-    bits_of_hex, five_sixths, half, no_staircase, not_well_formed, plain, plain_extended, EXTENDED,
-    EXTENDED_SENT, TOY, TOY_SENT,
+    bits_of_hex, five_sixths, half, no_staircase, not_well_formed, plain, plain_extended, twenty,
+    EXTENDED, EXTENDED_SENT, TOY, TOY_SENT, TWENTY_SENT,
 };
 use crate::send::send;
-use crate::transfer::Asked;
+use crate::transfer::{Asked, Transfer};
+
+/// Bits with N_L 1 and Q_m 2, rv 0 and edition 1.
+fn plainly(a: u64, bits: &[u8]) -> Received<'_> {
+    Received {
+        a,
+        layers: 1,
+        order: 2,
+        rv: 0,
+        ed: 1,
+        bits,
+    }
+}
 
 /// Receives with room enough.
 fn received(record: &[u8], a: u64, place: (u64, u64), bits: &[u8]) -> Result<Vec<u8>, Number> {
@@ -29,8 +43,19 @@ fn received_in(
     (layers, order): (u64, u64),
     bits: &[u8],
 ) -> Result<Vec<u8>, Number> {
+    let got = Received {
+        layers,
+        order,
+        rv,
+        ..plainly(a, bits)
+    };
+    received_as(record, got)
+}
+
+/// The same with all that is asked for.
+fn received_as(record: &[u8], got: Received) -> Result<Vec<u8>, Number> {
     let mut output = vec![0; 2048];
-    let count = receive(record, a, layers, order, rv, bits, &mut output)?;
+    let count = receive(record, got, &mut output)?;
     output.truncate(count);
     Ok(output)
 }
@@ -48,6 +73,7 @@ fn sent_in(rv: u64, record: &[u8], block: &[u8], (layers, order): (u64, u64), g:
         order,
         g: g as u64,
         rv,
+        ed: 1,
     };
     assert_eq!(send(record, block, asked, &mut output), Ok(g));
     output
@@ -142,7 +168,7 @@ fn what_was_sent_is_received() {
         for &length in lengths {
             let block = octets(length, &mut random);
             let a = 8 * length as u64;
-            let blocks = crate::plan::plan(&record, length as u64).unwrap().c;
+            let blocks = crate::plan::plan(&record, length as u64, 1).unwrap().c;
             let bits_of_a_place = usize::try_from(place.0 * place.1).unwrap();
             for share in shares {
                 // No spare place, one, some, and one for every block but the last.
@@ -354,12 +380,12 @@ fn the_output_has_room_for_the_octets() {
     let bits = sent(&TOY, &[1, 2, 3], (1, 2), 192);
     for length in 0..3 {
         let mut output = vec![7; length];
-        let number = receive(&TOY, 24, 1, 2, 0, &bits, &mut output);
+        let number = receive(&TOY, plainly(24, &bits), &mut output);
         assert_eq!(number, Err(OUTPUT));
         assert_eq!(output, vec![7; length]);
     }
     let mut output = [7; 5];
-    assert_eq!(receive(&TOY, 24, 1, 2, 0, &bits, &mut output), Ok(3));
+    assert_eq!(receive(&TOY, plainly(24, &bits), &mut output), Ok(3));
     assert_eq!(output, [1, 2, 3, 7, 7]);
 }
 
@@ -369,14 +395,19 @@ fn a_refusal_changes_nothing() {
     let mut bits = sent(&TOY, &[1, 2, 3], (1, 2), 192);
     bits[191] = 1 - bits[191];
     let mut output = [7; 5];
-    assert_eq!(receive(&TOY, 24, 1, 2, 0, &bits, &mut output), Err(UNSENT));
+    let number = receive(&TOY, plainly(24, &bits), &mut output);
+    assert_eq!(number, Err(UNSENT));
     assert_eq!(output, [7; 5]);
 }
 
 #[test]
 fn the_lowest_number_is_answered() {
     let receive = |record: &[u8], a, layers, bits: &[u8], length: usize| {
-        receive(record, a, layers, 2, 0, bits, &mut vec![0; length])
+        let got = Received {
+            layers,
+            ..plainly(a, bits)
+        };
+        receive(record, got, &mut vec![0; length])
     };
     assert_eq!(receive(&not_well_formed(), 9, 0, &[9], 0), Err(RECORD));
     assert_eq!(receive(&no_staircase(), 9, 0, &[9], 0), Err(STAIRCASE));
@@ -450,7 +481,7 @@ fn what_was_sent_in_a_version_is_received_in_it() {
         for &length in lengths {
             let block = octets(length, &mut random);
             let a = 8 * length as u64;
-            let blocks = crate::plan::plan(&record, length as u64).unwrap().c;
+            let blocks = crate::plan::plan(&record, length as u64, 1).unwrap().c;
             for share in shares {
                 for rv in 0..4 {
                     let bits = sent_in(rv, &record, &block, place, share * blocks);
@@ -477,7 +508,12 @@ fn filler_that_a_version_starts_in_is_not_sent() {
 #[test]
 fn the_version_is_tested_between_7_and_8() {
     let receive = |record: &[u8], a, layers, rv, bits: &[u8]| {
-        receive(record, a, layers, 2, rv, bits, &mut [])
+        let got = Received {
+            layers,
+            rv,
+            ..plainly(a, bits)
+        };
+        receive(record, got, &mut [])
     };
     assert_eq!(receive(&not_well_formed(), 9, 0, 4, &[9]), Err(RECORD));
     assert_eq!(receive(&no_staircase(), 9, 0, 4, &[9]), Err(STAIRCASE));
@@ -489,4 +525,253 @@ fn the_version_is_tested_between_7_and_8() {
     assert_eq!(receive(&EXTENDED, 2048, 1, 3, &[9; 2]), Err(MANY_BLOCKS));
     assert_eq!(receive(&EXTENDED, 8, 1, 3, &[9; 20]), Err(FEW_PLACES));
     assert_eq!(receive(&EXTENDED, 8, 1, 3, &[9; 22]), Err(OUTPUT));
+}
+
+/// Received in edition 2, with N_L 1 and Q_m 2.
+fn second(record: &[u8], a: u64, bits: &[u8]) -> Result<Vec<u8>, Number> {
+    received_as(
+        record,
+        Received {
+            ed: 2,
+            ..plainly(a, bits)
+        },
+    )
+}
+
+/// A transfer in edition 2, with N_L 1 and Q_m 2.
+fn transfer(record: &[u8], a: u64, g: u64, rv: u64) -> Transfer {
+    let asked = Asked {
+        layers: 1,
+        order: 2,
+        g,
+        rv,
+        ed: 2,
+    };
+    Transfer::new(record, a, asked).unwrap()
+}
+
+#[test]
+fn octets_010203_in_each_edition() {
+    // Worked out beforehand. "Demand 3 holds within one edition, never across two."
+    let record = twenty().octets();
+    let [one, two] = TWENTY_SENT.map(|hex| bits_of_hex(hex, 138));
+    assert_eq!(received(&record, 24, (1, 2), &one), Ok(vec![1, 2, 3]));
+    assert_eq!(second(&record, 24, &two), Ok(vec![1, 2, 3]));
+    assert_eq!(received(&record, 24, (1, 2), &two), Err(UNSENT));
+    assert_eq!(second(&record, 24, &one), Err(UNSENT));
+}
+
+#[test]
+fn zeros_are_received_in_either_edition() {
+    let record = twenty().octets();
+    assert_eq!(received(&record, 24, (1, 2), &[0; 138]), Ok(vec![0; 3]));
+    assert_eq!(second(&record, 24, &[0; 138]), Ok(vec![0; 3]));
+    assert_eq!(second(&record, 24, &[1; 138]), Err(UNSENT));
+}
+
+#[test]
+fn what_was_sent_in_edition_2_is_received_in_it() {
+    let mut random = Random::new(8);
+    for (record, lengths, share) in [
+        (twenty().octets(), &[1, 2, 3, 40, 125][..], 46),
+        (plain(1, 3, &[25]).octets(), &[1, 5], 100),
+        (plain(1, 3, &[32, 56, 60]).octets(), &[1, 5, 11], 240),
+        (half().octets(), &[37, 118, 119, 300], 1944),
+    ] {
+        for &length in lengths {
+            let block = octets(length, &mut random);
+            let a = 8 * length as u64;
+            let blocks = crate::plan::plan(&record, length as u64, 2).unwrap().c as u64;
+            for spare in [0, 1, blocks - 1, blocks] {
+                let bits = transfer(&record, a, share * blocks + 2 * spare, 0).sent(&block);
+                assert_eq!(second(&record, a, &bits), Ok(block.clone()), "{length}");
+            }
+        }
+    }
+}
+
+#[test]
+fn the_longest_block_comes_back_in_edition_2() {
+    let mut random = Random::new(9);
+    let block = octets(2048, &mut random);
+    let record = half().octets();
+    let bits = transfer(&record, 16_384, 65_536, 0).sent(&block);
+    assert_eq!(second(&record, 16_384, &bits), Ok(block));
+}
+
+#[test]
+fn every_changed_bit_is_noticed_in_edition_2() {
+    // Three blocks of 46 places, with two copies, or four in the first.
+    let record = twenty().octets();
+    for g in [144, 146] {
+        let bits = transfer(&record, 24, g, 0).sent(&[1, 2, 3]);
+        assert_eq!(second(&record, 24, &bits), Ok(vec![1, 2, 3]));
+        for place in 0..bits.len() {
+            let mut changed = bits.clone();
+            changed[place] = 1 - changed[place];
+            assert_eq!(second(&record, 24, &changed), Err(UNSENT), "{place}");
+        }
+    }
+}
+
+/// The bits of octets 010203 where the code blocks that are named have other bits in the place of their checksum.
+/// The parity is that of those bits.
+fn with_sums(blocks: &[usize], other: impl Fn(&[u8]) -> Vec<u8>) -> Vec<u8> {
+    let transfer = transfer(&twenty().octets(), 24, 138, 0);
+    transfer.sent_with(&[1, 2, 3], |r, own| {
+        let mut places = transfer.places(own);
+        if blocks.contains(&r) {
+            let sum = other(&places[own.len()..]);
+            places.truncate(own.len());
+            places.extend(sum);
+        }
+        places
+    })
+}
+
+#[test]
+fn a_wrong_checksum_is_noticed_in_each_block() {
+    // A slip: "only the last block's sum tested", or all but it.
+    let record = twenty().octets();
+    assert_eq!(
+        second(&record, 24, &with_sums(&[], <[u8]>::to_vec)),
+        Ok(vec![1, 2, 3])
+    );
+    for blocks in [&[0][..], &[1], &[2], &[0, 1], &[0, 1, 2]] {
+        for place in 0..24 {
+            let bits = with_sums(blocks, |sum| {
+                let mut sum = sum.to_vec();
+                sum[place] = 1 - sum[place];
+                sum
+            });
+            // Every parity row is even.
+            for word in bits.chunks(46) {
+                assert_eq!(crate::parity::check(&record, 2, word), Ok(true));
+            }
+            assert_eq!(second(&record, 24, &bits), Err(UNSENT), "{blocks:?}");
+        }
+        let turned = with_sums(blocks, |sum| sum.iter().map(|bit| 1 - bit).collect());
+        assert_eq!(second(&record, 24, &turned), Err(UNSENT));
+        let zeros = with_sums(blocks, |_| vec![0; 24]);
+        assert_eq!(second(&record, 24, &zeros), Err(UNSENT));
+    }
+}
+
+#[test]
+fn a_checksum_of_24a_is_none_of_24b() {
+    let transfer = transfer(&twenty().octets(), 24, 138, 0);
+    for wrong in 0..3 {
+        let bits = transfer.sent_with(&[1, 2, 3], |r, own| {
+            if r == wrong {
+                with_checksum(own)
+            } else {
+                transfer.places(own)
+            }
+        });
+        assert_eq!(
+            second(&twenty().octets(), 24, &bits),
+            Err(UNSENT),
+            "{wrong}"
+        );
+    }
+}
+
+#[test]
+fn a_checksum_behind_the_filler_is_noticed() {
+    // Kb 1, m 3, z 60: 32 bits, 24, and 4 places of filler. The same bits are sent, but for the parity.
+    let record = plain(1, 3, &[60]).octets();
+    let block = [0xde, 0xad, 0xbe, 0xef, 0x5a];
+    let transfer = transfer(&record, 40, 472, 0);
+    let right = transfer.sent(&block);
+    assert_eq!(second(&record, 40, &right), Ok(block.to_vec()));
+    let bits = transfer.sent_with(&block, |_, own| {
+        let sum = &transfer.places(own)[32..56];
+        [own, &[FILLER; 4], sum].concat()
+    });
+    assert_eq!(bits[..56], right[..56]);
+    assert_eq!(second(&record, 40, &bits), Err(UNSENT));
+}
+
+#[test]
+fn one_block_has_no_checksum_of_its_own() {
+    // Kb 4, m 3, z 16, one octet: 32 bits of 64, which would have room for 24 more.
+    let record = plain(4, 3, &[16]).octets();
+    let transfer = transfer(&record, 8, 112, 0);
+    let bits = transfer.sent(&[0x5a]);
+    assert_eq!(bits, sent(&record, &[0x5a], (1, 2), 112));
+    assert_eq!(second(&record, 8, &bits), Ok(vec![0x5a]));
+    // The bits of edition 1 with no room for all of them.
+    assert_eq!(second(&record, 8, &bits[..78]), Err(SHORT_SHARE));
+    assert_eq!(second(&record, 8, &bits[..80]), Ok(vec![0x5a]));
+}
+
+#[test]
+fn room_is_needed_for_the_checksum_too() {
+    // Three blocks of 46 places: 69 symbol places have room, 68 have not.
+    let record = twenty().octets();
+    for (g, expected) in [(138, Ok(vec![1, 2, 3])), (136, Err(SHORT_SHARE))] {
+        let bits = transfer(&record, 24, g, 0).sent(&[1, 2, 3]);
+        assert_eq!(second(&record, 24, &bits), expected, "{g}");
+    }
+    // Edition 1 has two blocks of 24 bits and 6: 60 bits have room.
+    let bits = sent(&record, &[1, 2, 3], (1, 2), 60);
+    assert_eq!(received(&record, 24, (1, 2), &bits), Ok(vec![1, 2, 3]));
+    assert_eq!(second(&record, 24, &bits), Err(SHORT_SHARE));
+}
+
+#[test]
+fn edition_2_in_each_version() {
+    // Kb 1, m 3, x 1, z 28: D 140. Of 8 blocks each has 4 bits and 24. And kb 1, z 40, 48 and 60: filler.
+    for record in [
+        plain_extended(1, 3, 1, &[28]).octets(),
+        plain_extended(1, 3, 1, &[40, 48, 60]).octets(),
+    ] {
+        for length in [1, 5] {
+            let a = 8 * length as u64;
+            let mut random = Random::new(10);
+            let block = octets(length, &mut random);
+            let blocks = crate::plan::plan(&record, length as u64, 2).unwrap().c as u64;
+            for rv in 0..4 {
+                let bits = transfer(&record, a, 320 * blocks, rv).sent(&block);
+                for other in 0..4 {
+                    let got = Received {
+                        rv: other,
+                        ed: 2,
+                        ..plainly(a, &bits)
+                    };
+                    let expected = (other == rv).then(|| block.clone()).ok_or(UNSENT);
+                    assert_eq!(received_as(&record, got), expected, "{length} {rv} {other}");
+                }
+            }
+        }
+    }
+}
+
+#[test]
+fn the_edition_is_tested_before_7() {
+    let receive = |record: &[u8], a, layers, rv, ed, bits: &[u8]| {
+        let got = Received {
+            layers,
+            rv,
+            ed,
+            ..plainly(a, bits)
+        };
+        receive(record, got, &mut [])
+    };
+    for ed in [0, 3, 258, 1 << 32 | 1, u64::MAX] {
+        assert_eq!(receive(&not_well_formed(), 9, 0, 4, ed, &[9]), Err(RECORD));
+        assert_eq!(receive(&no_staircase(), 9, 0, 4, ed, &[9]), Err(STAIRCASE));
+        assert_eq!(receive(&EXTENDED, 9, 0, 4, ed, &[9]), Err(EDITION));
+        assert_eq!(receive(&EXTENDED, 8, 0, 4, ed, &[9]), Err(EDITION));
+        assert_eq!(receive(&EXTENDED, 8, 1, 0, ed, &[0; 176]), Err(EDITION));
+    }
+    assert_eq!(receive(&EXTENDED, 9, 0, 4, 2, &[9]), Err(BLOCK_LENGTH));
+    assert_eq!(receive(&EXTENDED, 8, 0, 4, 2, &[9]), Err(VERSION));
+    assert_eq!(receive(&EXTENDED, 8, 0, 3, 2, &[9]), Err(PARAMETER));
+    assert_eq!(receive(&EXTENDED, 8, 1, 3, 2, &[9; 2]), Err(MANY_BLOCKS));
+    let record = twenty().octets();
+    assert_eq!(receive(&record, 24, 1, 0, 2, &[9; 4]), Err(FEW_PLACES));
+    assert_eq!(receive(&record, 24, 1, 0, 2, &[9; 6]), Err(OUTPUT));
+    assert_eq!(second(&record, 24, &[9; 6]), Err(NO_BIT));
+    assert_eq!(second(&record, 24, &[1; 6]), Err(SHORT_SHARE));
 }

@@ -42,6 +42,10 @@ fn a_request_is_read() {
     );
     assert_eq!(request(b"crc 8 x:00ff"), crc(8, &[0, 255]));
     assert_eq!(request(b"crc 16 -"), crc(16, &[]));
+    assert_eq!(
+        request(b"crc24b x:00ff"),
+        read("crc24b", &[octets(&[0, 255])])
+    );
 }
 
 #[test]
@@ -184,7 +188,7 @@ fn requests_about_shelves_are_read() {
     );
 }
 
-/// The kinds that may ask for a checker; no other has an optional word.
+/// The kinds that may ask for a checker.
 const CHECKING: [&str; 4] = ["check", "recv", "hrecv", "hcheck"];
 
 /// The name of a kind, and for each word of its form one that is a number, bits and packed octets alike.
@@ -243,9 +247,9 @@ fn a_checker_is_one_of_the_two_and_is_asked_for_once() {
             "by=Plain",
             "by=plain=",
             "BY=plain",
-            "ed=1",
-            "by=plain ed=1",
-            "ed=1 by=plain",
+            "type=1",
+            "by=plain type=1",
+            "type=1 by=plain",
             "by=plain by=plain",
             "by=quick by=plain",
             "by=slow by=plain",
@@ -287,19 +291,58 @@ fn a_version_is_asked_for() {
         ] {
             assert_eq!(read(ending).err(), Some(Fault::Number), "{line}{ending}");
         }
-        for ending in [" rv=1 rv=1", " RV=1", " rv", " rv=1 ed=1", " ed=1 rv=q"] {
+        for ending in [" rv=1 rv=1", " RV=1", " rv", " rv=1 q=1", " q=1 rv=q"] {
             assert_eq!(read(ending).err(), Some(Fault::Words), "{line}{ending}");
         }
-        // Only a rate has a type, and only receiving a checker.
+        // Only a rate has a type, and no edition; and only receiving has a checker.
         let has = |name: &str, holds: bool| (read(name).is_ok(), holds);
         for (left, right) in [
             has(" type=2 rv=1", kind.name == "rate"),
             has(" rv=1 type=2", kind.name == "rate"),
+            has(" rv=1 ed=2", kind.name != "rate"),
+            has(" ed=2 rv=1", kind.name != "rate"),
             has(" by=plain rv=1", kind.name.ends_with("recv")),
             has(" rv=1 by=plain", kind.name.ends_with("recv")),
         ] {
             assert_eq!(left, right, "{line}");
         }
+    }
+}
+
+#[test]
+fn an_edition_is_asked_for() {
+    for kind in KINDS {
+        let line = any_words(kind.name).join(" ");
+        let read = |ending: &str| super::request([&line, ending].concat().as_bytes());
+        if !["plan", "send", "recv", "hsend", "hrecv"].contains(&kind.name) {
+            assert_eq!(read(" ed=1").err(), Some(Fault::Words), "{line}");
+            continue;
+        }
+        for (ending, ed) in [
+            ("", 1),
+            (" ed=0", 0),
+            (" ed=2", 2),
+            (" ed=003", 3),
+            (" ed=2 # ed=1", 2),
+            (" ed=18446744073709551615", u64::MAX),
+        ] {
+            let (_, given) = read(ending).unwrap().unwrap();
+            assert_eq!(given.number_of("ed"), ed, "{line}{ending}");
+        }
+        for ending in [
+            " ed=",
+            " ed=-",
+            " ed=x",
+            " ed=2=",
+            " ed=18446744073709551616",
+        ] {
+            assert_eq!(read(ending).err(), Some(Fault::Number), "{line}{ending}");
+        }
+        for ending in [" ed=2 ed=2", " ED=2", " ed", " edition=2", " ed=x type=2"] {
+            assert_eq!(read(ending).err(), Some(Fault::Words), "{line}{ending}");
+        }
+        let is_plan = kind.name == "plan";
+        assert_eq!(read(" rv=1 ed=2").is_ok(), !is_plan, "{line}");
     }
 }
 
@@ -399,6 +442,7 @@ fn a_record_and_packed_octets_have_room_for_70_000() {
 fn every_request_has_its_count_of_words() {
     for (name, count) in [
         ("crc", 2),
+        ("crc24b", 1),
         ("crcoct", 2),
         ("crcm", 3),
         ("crcappend", 4),

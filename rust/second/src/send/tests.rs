@@ -1,16 +1,17 @@
 //! Sending: the worked numbers, each refusal, and what each step adds.
 
 use super::send;
-use crate::checksum::with_checksum;
+use crate::checksum::{with_block_checksum, with_checksum};
 use crate::numbers::{
-    Number, BLOCK_LENGTH, FEW_PLACES, MANY_BLOCKS, OUTPUT, PARAMETER, RECORD, STAIRCASE, VERSION,
+    Number, BLOCK_LENGTH, EDITION, FEW_PLACES, MANY_BLOCKS, OUTPUT, PARAMETER, RECORD, STAIRCASE,
+    VERSION,
 };
 use crate::octets::{packed, unpacked};
 use crate::parity::{check, encode};
 use crate::random::Random;
 use crate::samples::{
-    bits_of_hex, five_sixths, half, no_staircase, not_well_formed, plain, plain_extended, EXTENDED,
-    EXTENDED_SENT, TOY, TOY_SENT,
+    bits_of_hex, five_sixths, half, no_staircase, not_well_formed, plain, plain_extended, twenty,
+    EXTENDED, EXTENDED_SENT, TOY, TOY_SENT, TWENTY_SENT,
 };
 use crate::transfer::Asked;
 
@@ -20,7 +21,13 @@ fn asked(layers: u64, order: u64, g: u64) -> Asked {
         order,
         g,
         rv: 0,
+        ed: 1,
     }
+}
+
+/// The same in edition 2.
+fn second(asked: Asked) -> Asked {
+    Asked { ed: 2, ..asked }
 }
 
 /// The same in a redundancy version.
@@ -347,4 +354,146 @@ fn the_longest_block_at_full_size() {
     let parity = [&first[2430 + own..unmarked], &first[..2430]].concat();
     let filled = [carried, &vec![0; 1620 - own], &parity].concat();
     assert_eq!(check(&record, 81, &filled), Ok(true));
+}
+
+#[test]
+fn octets_010203_in_each_edition() {
+    // Worked out beforehand.
+    let record = twenty().octets();
+    for (ed, hex) in (1..).zip(TWENTY_SENT) {
+        let asked = Asked {
+            ed,
+            ..asked(1, 2, 138)
+        };
+        let bits = sent(&record, &[1, 2, 3], asked);
+        assert_eq!(bits, Ok(bits_of_hex(hex, 138)), "{ed}");
+    }
+}
+
+#[test]
+fn each_block_sends_its_own_bits_and_their_checksum() {
+    // The same by hand: 16 bits of the block with its checksum, their 24B, and six parity bits.
+    let record = twenty().octets();
+    let bits = sent(&record, &[1, 2, 3], second(asked(1, 2, 138))).unwrap();
+    let word = with_checksum(&unpacked(&[1, 2, 3]));
+    for (stretch, own) in bits.chunks(46).zip(word.chunks(16)) {
+        assert_eq!(stretch[..40], with_block_checksum(own));
+        assert_eq!(check(&record, 2, stretch), Ok(true));
+    }
+}
+
+#[test]
+fn the_checksum_stands_before_the_filler() {
+    // Kb 1, m 3, z 60, 5 octets: two blocks of 32 bits and 24, and 4 places of filler, which are not sent.
+    let record = plain(1, 3, &[60]).octets();
+    let block = [0xde, 0xad, 0xbe, 0xef, 0x5a];
+    let bits = sent(&record, &block, second(asked(1, 2, 2 * 240))).unwrap();
+    let word = with_checksum(&unpacked(&block));
+    for (stretch, own) in bits.chunks(240).zip(word.chunks(32)) {
+        assert_eq!(stretch[..56], with_block_checksum(own));
+        let filled = [&stretch[..56], &[0; 4], &stretch[56..236]].concat();
+        assert_eq!(check(&record, 60, &filled), Ok(true));
+        // N is 236: the first four again.
+        assert_eq!(stretch[236..], stretch[..4]);
+    }
+}
+
+#[test]
+fn one_block_is_sent_alike_in_either_edition() {
+    let record = half().octets();
+    let mut random = Random::new(6);
+    for count in [1, 37, 118] {
+        let block = octets(count, &mut random);
+        let first = sent(&record, &block, asked(1, 2, 4000));
+        assert_eq!(sent(&record, &block, second(asked(1, 2, 4000))), first);
+    }
+    let block = octets(119, &mut random);
+    let first = sent(&record, &block, asked(1, 2, 4000));
+    assert_ne!(sent(&record, &block, second(asked(1, 2, 4000))), first);
+}
+
+#[test]
+fn the_longest_block_in_edition_2() {
+    // Rate 1/2: 18 blocks, ten of 912 bits and eight of 911. 16,384 symbol places are 18 · 910 and 4.
+    let record = half().octets();
+    let mut random = Random::new(7);
+    let block = octets(2048, &mut random);
+    let bits = sent(&record, &block, second(asked(2, 2, 65_536))).unwrap();
+    let mut rest = &bits[..];
+    let mut all = Vec::new();
+    for r in 0..18 {
+        let own = if r < 10 { 912 } else { 911 };
+        let (coded, after) = rest.split_at(if r < 4 { 3644 } else { 3640 });
+        rest = after;
+        all.extend_from_slice(&coded[..own]);
+        assert_eq!(coded[..own + 24], with_block_checksum(&coded[..own]));
+        let (carried, parity) = coded[..own + 24 + 972].split_at(own + 24);
+        let word = [carried, &vec![0; 972 - own - 24], parity].concat();
+        assert_eq!(check(&record, 81, &word), Ok(true));
+    }
+    assert_eq!(rest, []);
+    assert_eq!(all, with_checksum(&unpacked(&block)));
+}
+
+#[test]
+fn a_version_counts_the_checksum_too() {
+    // Kb 1, m 3, x 1, z 28: one octet is cut into 8 blocks of 4 bits and 24, D 140. Rv 1, 2 and 3 start at
+    // places 35, 70 and 105, which are parity.
+    let record = plain_extended(1, 3, 1, &[28]).octets();
+    let first = sent(&record, &[0x5a], second(asked(1, 2, 8 * 140))).unwrap();
+    for (rv, turned) in [(1, 35), (2, 70), (3, 105)] {
+        let asked = with_version(rv, second(asked(1, 2, 8 * 140)));
+        let bits = sent(&record, &[0x5a], asked).unwrap();
+        for (word, other) in first.chunks(140).zip(bits.chunks(140)) {
+            assert_eq!([&word[turned..], &word[..turned]].concat(), other);
+        }
+    }
+}
+
+#[test]
+fn blocks_without_room_for_a_bit_are_too_many() {
+    let one = |z| {
+        sent(
+            &plain(1, 3, &[z]).octets(),
+            &[1],
+            second(asked(1, 2, 65_536)),
+        )
+    };
+    assert!(one(32).is_ok() && one(25).is_ok());
+    assert_eq!(one(24), Err(MANY_BLOCKS));
+    assert_eq!(
+        sent(&TOY, &[1], second(asked(1, 2, 65_536))),
+        Err(MANY_BLOCKS)
+    );
+    // 125 octets are 64 blocks, 126 are 65; with as many symbol places, and with one fewer.
+    let record = twenty().octets();
+    let zeros = |count, g| sent(&record, &vec![0; count], second(asked(1, 2, g)));
+    assert_eq!(zeros(125, 128), Ok(vec![0; 128]));
+    assert_eq!(zeros(125, 126), Err(FEW_PLACES));
+    assert_eq!(zeros(126, 126), Err(MANY_BLOCKS));
+}
+
+#[test]
+fn the_edition_is_tested_before_7() {
+    let send = |record: &[u8], count: usize, asked| send(record, &vec![0; count], asked, &mut []);
+    for ed in [0, 3, 257, 1 << 32 | 2, u64::MAX] {
+        // No block, an rv over 3, and no layer.
+        let bad = Asked {
+            ed,
+            ..with_version(4, asked(0, 2, 2))
+        };
+        assert_eq!(send(&not_well_formed(), 0, bad), Err(RECORD));
+        assert_eq!(send(&no_staircase(), 0, bad), Err(STAIRCASE));
+        for count in [0, 1, 2048, 2049] {
+            assert_eq!(send(&EXTENDED, count, bad), Err(EDITION));
+        }
+    }
+    let bad = second(with_version(4, asked(0, 2, 2)));
+    assert_eq!(send(&EXTENDED, 0, bad), Err(BLOCK_LENGTH));
+    assert_eq!(send(&EXTENDED, 1, bad), Err(VERSION));
+    assert_eq!(send(&EXTENDED, 1, second(asked(0, 2, 2))), Err(PARAMETER));
+    assert_eq!(send(&EXTENDED, 1, second(asked(1, 2, 2))), Err(MANY_BLOCKS));
+    let record = twenty().octets();
+    assert_eq!(send(&record, 3, second(asked(1, 2, 4))), Err(FEW_PLACES));
+    assert_eq!(send(&record, 3, second(asked(1, 2, 6))), Err(OUTPUT));
 }

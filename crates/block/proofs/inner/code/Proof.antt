@@ -3,7 +3,7 @@ use mathlib.Core.Path.{_∙_}
 use native.Mathlib.Omega.{arith}
 use denote.Ref.{now}
 use borrow.Author.Needs.{needs}
-use Rattle.cutting.proofs.PlanFields.{some-fields, places-product}
+use Rattle.cutting.proofs.PlanFields.{of-fields, places-product, plan-sum}
 use Rattle.parity.proofs.Coded.{solution-front}
 use Rattle.block.proofs.PlanFields.{word-room}
 use Rattle.block.proofs.inner.code.Statement.{statement}
@@ -14,15 +14,15 @@ lay-block-requires c κs =
     let st = c .before .before .before .before in
     let a = st .args in
     let R = now (a .profile) in
-    let k = some-fields R (a .plan) (st .pre .ready .some) in
-    (st .pre .inside, st .pre .own-fits, omega (arith, word-room R (a .plan) k, st .pre .fits))
+    let k = of-fields R (st .pre .edition) (a .plan) (st .pre .ready .of) in
+    (st .pre .inside, st .pre .carried-fits, omega (arith, word-room R (a .plan) k, st .pre .fits), plan-sum R (a .plan) k, st .pre .ready .single)
 
 solve-requires : tie.Need-solve-requires
 solve-requires c κs =
     let st = c .before .before .before .before .before .before .before .before in
     let a = st .args in
     let R = now (a .profile) in
-    (st .pre .ready .some, c .before .before .before .lay-block .ensures .len ∙ st .pre .fits)
+    (record { edition = st .pre .edition; of = st .pre .ready .of }, c .before .before .before .lay-block .ensures .len ∙ st .pre .fits)
 
 same-length : tie.Need-same-length
 same-length c = search needs
@@ -32,7 +32,7 @@ returns c =
     let st = c .before .before .before .before .before .before .before .before .before .before .before in
     let a = st .args in
     let R = now (a .profile) in
-    let k = some-fields R (a .plan) (st .pre .ready .some) in
+    let k = of-fields R (st .pre .edition) (a .plan) (st .pre .ready .of) in
     let laid = c .before .before .before .before .before .before .lay-block in
     let solve = c .before .before .solve in
     let product = places-product R (a .plan) k in

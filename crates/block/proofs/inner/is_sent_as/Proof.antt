@@ -33,8 +33,8 @@ returns c =
     let st = c .before .before .before .before .before in
     let a = st .args in
     let R = now (a .profile) in
-    let law = planned-sent-as R (a .plan) (st .pre .some) (now (a .s)) (a .own) (a .from) (st .pre .own-fits) (omega (arith, st .pre .starts, st .pre .fits)) (omega (arith, st .pre .room, st .pre .fits)) (st .pre .single) (length (now (a .word))) (st .pre .fits) in
-    let none : copiesAgree (a .own + (length (now (a .word)) - a .plan .places)) (now (a .s)) ≡ false = sym (c .before .copies-agree .ensures) ∙ not-true _ (c .if1 .taken) in
+    let law = planned-sent-as R (a .plan) (st .pre .some) (now (a .s)) (a .carried) (a .from) (st .pre .carried-fits) (omega (arith, st .pre .starts, st .pre .fits)) (omega (arith, st .pre .room, st .pre .fits)) (st .pre .single) (length (now (a .word))) (st .pre .fits) in
+    let none : copiesAgree (a .carried + (length (now (a .word)) - a .plan .places)) (now (a .s)) ≡ false = sym (c .before .copies-agree .ensures) ∙ not-true _ (c .if1 .taken) in
     record { is = rw none at law; front = λ q. absurd (true≢false (sym q)) }
 
 gather-requires : tie.Need-gather-requires
@@ -42,7 +42,7 @@ gather-requires c κs =
     let st = c .before .before .before .before .before .before in
     let a = st .args in
     let R = now (a .profile) in
-    (st .pre .own-fits, omega (arith, word-room R (a .plan) (some-fields R (a .plan) (st .pre .some)), st .pre .fits), omega (arith, st .pre .starts), st .pre .room)
+    (st .pre .carried-fits, omega (arith, word-room R (a .plan) (some-fields R (a .plan) (st .pre .some)), st .pre .fits), omega (arith, st .pre .starts), st .pre .room)
 
 is-even-requires : tie.Need-is-even-requires
 is-even-requires c κs =
@@ -60,12 +60,12 @@ returns-2 c =
     let st = c .before .before .before .before .before .before .before .before .before .before .before in
     let a = st .args in
     let R = now (a .profile) in
-    let law = planned-sent-as R (a .plan) (st .pre .some) (now (a .s)) (a .own) (a .from) (st .pre .own-fits) (omega (arith, st .pre .starts, st .pre .fits)) (omega (arith, st .pre .room, st .pre .fits)) (st .pre .single) (length (now (a .word))) (st .pre .fits) in
-    let all : copiesAgree (a .own + (length (now (a .word)) - a .plan .places)) (now (a .s)) ≡ true = sym (c .before .before .before .before .before .before .before .copies-agree .ensures) ∙ not-false _ (c .before .before .before .before .before .before .if1 .left) in
+    let law = planned-sent-as R (a .plan) (st .pre .some) (now (a .s)) (a .carried) (a .from) (st .pre .carried-fits) (omega (arith, st .pre .starts, st .pre .fits)) (omega (arith, st .pre .room, st .pre .fits)) (st .pre .single) (length (now (a .word))) (st .pre .fits) in
+    let all : copiesAgree (a .carried + (length (now (a .word)) - a .plan .places)) (now (a .s)) ≡ true = sym (c .before .before .before .before .before .before .before .copies-agree .ensures) ∙ not-false _ (c .before .before .before .before .before .before .if1 .left) in
     let gather = c .before .before .before .before .gather in
     record {
       is = c .is-even .ensures ∙ ap (checksBy R (a .plan)) (gather .ensures) ∙ (rw all at law);
-      front = λ q. ap (take (a .own)) (gather .ensures) ∙ gathered-own R (a .plan) (st .pre .some) (now (a .s)) (a .own) (a .from) (st .pre .own-fits) (omega (arith, st .pre .starts, st .pre .fits)) (omega (arith, st .pre .room, st .pre .fits)) (st .pre .single) (length (now (a .word))) (st .pre .fits);
+      front = λ q. ap (take (a .carried)) (gather .ensures) ∙ gathered-own R (a .plan) (st .pre .some) (now (a .s)) (a .carried) (a .from) (st .pre .carried-fits) (omega (arith, st .pre .starts, st .pre .fits)) (omega (arith, st .pre .room, st .pre .fits)) (st .pre .single) (length (now (a .word))) (st .pre .fits);
     }
 
 pub is-sent-as-spec : {M : Type 1} → statement M

@@ -46,7 +46,7 @@ plan-accepted-requires c κs =
     let octets = c .before .before .before .before .octets-of in
     let zero = sym (requested (c .before .before .before)) ∙ c .before .before .if1 .left in
     let known = rw (sym (octets .ensures)) at (reception-allocated (now (a .profile)) (a .a) (a .terms) (now (a .bits)) (a .room) zero) in
-    plan-passed R (octets .result) (known .0) .0
+    plan-passed R (a .terms .edition) (octets .result) (known .0) .0
 
 lacks-room-requires : tie.Need-lacks-room-requires
 lacks-room-requires c κs =
@@ -57,7 +57,7 @@ lacks-room-requires c κs =
     let zero = sym (requested (c .before .before .before .before)) ∙ c .before .before .before .if1 .left in
     let known = rw (sym (octets .ensures)) at (reception-allocated (now (a .profile)) (a .a) (a .terms) (now (a .bits)) (a .room) zero) in
     let plan = c .plan-accepted in
-    let blocks-is = blocks-are R (octets .result) (plan .result) (plan .ensures) (known .0) in
+    let blocks-is = blocks-are R (a .terms .edition) (octets .result) (plan .result) (plan .ensures) (known .0) in
     (record { octets = octets .result; taken = known .0; plan = plan .ensures }, rw blocks-is (known .1))
 
 returns-3 : tie.Need-returns-3
@@ -70,7 +70,7 @@ returns-3 c =
     let zero = sym (requested (c .before .before .before .before .before .before)) ∙ c .before .before .before .before .before .if1 .left in
     let known = rw (sym (octets .ensures)) at (reception-allocated (now (a .profile)) (a .a) (a .terms) (now (a .bits)) (a .room) zero) in
     let plan = c .before .before .plan-accepted in
-    let bits-are = bits-is R (octets .result) (plan .result) (plan .ensures) (known .0) ∙ ap blockBits (octets .ensures) in
+    let bits-are = bits-is R (a .terms .edition) (octets .result) (plan .result) (plan .ensures) (known .0) ∙ ap blockBits (octets .ensures) in
     let told : c .before .lacks-room .result ≡ someWithoutRoom R (octetsOf (a .a)) (a .terms) (length (now (a .bits))) = rw bits-are at (c .before .lacks-room .ensures) in
     let single = sym (c .before .before .before .before .some-over .ensures) ∙ c .before .before .before .if2 .left in
     reception-thirteen (now (a .profile)) (a .a) (a .terms) (now (a .bits)) (a .room) zero single (sym told ∙ c .if3 .taken)
@@ -85,7 +85,7 @@ returns-4 c =
     let zero = sym (requested (c .before .before .before .before .before .before)) ∙ c .before .before .before .before .before .if1 .left in
     let known = rw (sym (octets .ensures)) at (reception-allocated (now (a .profile)) (a .a) (a .terms) (now (a .bits)) (a .room) zero) in
     let plan = c .before .before .plan-accepted in
-    let bits-are = bits-is R (octets .result) (plan .result) (plan .ensures) (known .0) ∙ ap blockBits (octets .ensures) in
+    let bits-are = bits-is R (a .terms .edition) (octets .result) (plan .result) (plan .ensures) (known .0) ∙ ap blockBits (octets .ensures) in
     let told : c .before .lacks-room .result ≡ someWithoutRoom R (octetsOf (a .a)) (a .terms) (length (now (a .bits))) = rw bits-are at (c .before .lacks-room .ensures) in
     let single = sym (c .before .before .before .before .some-over .ensures) ∙ c .before .before .before .if2 .left in
     reception-done (now (a .profile)) (a .a) (a .terms) (now (a .bits)) (a .room) zero single (sym told ∙ c .if3 .left)

@@ -32,7 +32,7 @@ plan-accepted-requires c κs =
     let a = st .args in
     let R = now (a .profile) in
     let zero = sym (c .before .cut-number .ensures) ∙ c .if1 .left in
-    plan-passed R (a .octets) (cut-passed R (a .octets) (a .terms) (a .g .0) zero .0) .0
+    plan-passed R (a .terms .edition) (a .octets) (cut-passed R (a .octets) (a .terms) (a .g .0) zero .0) .0
 
 symbol-places-requires : tie.Need-symbol-places-requires
 symbol-places-requires c κs =
@@ -51,7 +51,7 @@ returns-2 c =
     let zero = sym (c .before .before .before .before .before .before .cut-number .ensures) ∙ c .before .before .before .before .before .if1 .left in
     let plan = c .before .before .before .before .plan-accepted in
     let ok = cut-passed R (a .octets) (a .terms) (a .g .0) zero in
-    let blocks-is = blocks-are R (a .octets) (plan .result) (plan .ensures) (ok .0) in
+    let blocks-is = blocks-are R (a .terms .edition) (a .octets) (plan .result) (plan .ensures) (ok .0) in
     let places-is = ap (λ (x : SymbolPlaces). x .0) (c .before .before .before .symbol-places .ensures) in
     let few : tooFewPlaces R (a .octets) (a .terms) (a .g .0) ≡ true = rw (sym places-is, sym blocks-is) (lt-ltb _ _ (c .if2 .taken)) in
     request-ten R (a .octets) (a .terms) (a .g .0) (a .need) (a .room) zero few
@@ -65,7 +65,7 @@ returns-3 c =
     let zero = sym (c .before .before .before .before .before .before .before .cut-number .ensures) ∙ c .before .before .before .before .before .before .if1 .left in
     let plan = c .before .before .before .before .before .plan-accepted in
     let ok = cut-passed R (a .octets) (a .terms) (a .g .0) zero in
-    let blocks-is = blocks-are R (a .octets) (plan .result) (plan .ensures) (ok .0) in
+    let blocks-is = blocks-are R (a .terms .edition) (a .octets) (plan .result) (plan .ensures) (ok .0) in
     let places-is = ap (λ (x : SymbolPlaces). x .0) (c .before .before .before .before .symbol-places .ensures) in
     let few : tooFewPlaces R (a .octets) (a .terms) (a .g .0) ≡ false = rw (sym places-is, sym blocks-is) (le-ltb _ _ (c .before .if2 .left)) in
     request-eleven R (a .octets) (a .terms) (a .g .0) (a .need) (a .room) zero few (lt-ltb _ _ (c .if3 .taken))
@@ -79,7 +79,7 @@ returns-4 c =
     let zero = sym (c .before .before .before .before .before .before .before .cut-number .ensures) ∙ c .before .before .before .before .before .before .if1 .left in
     let plan = c .before .before .before .before .before .plan-accepted in
     let ok = cut-passed R (a .octets) (a .terms) (a .g .0) zero in
-    let blocks-is = blocks-are R (a .octets) (plan .result) (plan .ensures) (ok .0) in
+    let blocks-is = blocks-are R (a .terms .edition) (a .octets) (plan .result) (plan .ensures) (ok .0) in
     let places-is = ap (λ (x : SymbolPlaces). x .0) (c .before .before .before .before .symbol-places .ensures) in
     let few : tooFewPlaces R (a .octets) (a .terms) (a .g .0) ≡ false = rw (sym places-is, sym blocks-is) (le-ltb _ _ (c .before .if2 .left)) in
     request-done R (a .octets) (a .terms) (a .g .0) (a .need) (a .room) zero few (le-ltb _ _ (c .if3 .left))

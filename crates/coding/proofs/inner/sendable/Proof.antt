@@ -1,10 +1,11 @@
 -- `coding::inner::sendable` meets its contract.
+use Prim.Native.Nat.{_+_, _≤_}
 use native.Mathlib.Omega.{arith}
 use denote.Ref.{now}
 use borrow.Author.Needs.{needs}
-use Rattle.cutting.proofs.PlanFields.{some-fields}
+use Rattle.cutting.proofs.PlanFields.{of-fields, some-fields}
 use Rattle.block.proofs.PlanFields.{word-room}
-use Rattle.coding.proofs.Sent.{own-room, sendable-is}
+use Rattle.coding.proofs.Sent.{carried-room, sendable-is}
 use Rattle.coding.proofs.inner.sendable.Statement.{statement}
 use Rattle.coding.proofs.inner.sendable.Tie as tie
 
@@ -19,30 +20,36 @@ own-bits-requires c κs =
 size-requires : tie.Need-size-requires
 size-requires c κs = search needs
 
-sub-n : tie.Need-sub-n
-sub-n c =
-    let st = c .before .before .before .before in
+-- what the block carries has room in its places, and these in the word
+room : (c : tie.After-size) → c .before .own-bits .result + c .before .before .before .args .plan .sums ≤ c .before .before .before .args .plan .places
+room c =
+    let st = c .before .before .before in
     let a = st .args in
     let R = now (a .profile) in
-    let k = some-fields R (a .plan) (st .pre) in
-    own-room R (a .plan) k (a .r) _ (c .before .before .own-bits .ensures)
+    carried-room R (a .plan) (some-fields R (a .plan) (st .pre)) (a .r) _ (c .before .own-bits .ensures)
+
+places : (c : tie.After-size) → c .before .before .before .args .plan .places ≤ c .size .result
+places c =
+    let st = c .before .before .before in
+    let a = st .args in
+    let R = now (a .profile) in
+    omega (arith, word-room R (a .plan) (some-fields R (a .plan) (st .pre)), c .size .ensures .0)
+
+add-carried : tie.Need-add-carried
+add-carried c = omega (arith, room (c .before), places (c .before), c .before .size .ensures .1)
+
+sub-n : tie.Need-sub-n
+sub-n c = room (c .before .before)
 
 sub-n-2 : tie.Need-sub-n-2
-sub-n-2 c =
-    let st = c .before .before .before .before in
-    let a = st .args in
-    let R = now (a .profile) in
-    let k = some-fields R (a .plan) (st .pre) in
-    omega (arith, word-room R (a .plan) k, c .before .size .ensures .0)
+sub-n-2 c = omega (arith, places (c .before .before))
 
 returns : tie.Need-returns
 returns c =
-    let st = c .before .before .before .before in
-    let a = st .args in
+    let a = c .before .before .before .before .before .args in
     let R = now (a .profile) in
-    let k = some-fields R (a .plan) (st .pre) in
-    let all = c .before .size .ensures in
-    (sendable-is R (a .plan) k (a .r) _ _ (c .before .before .own-bits .ensures) (all .0), omega (arith, all .1))
+    let all = c .before .before .size .ensures in
+    (λ ed of. sendable-is R (a .plan) (of-fields R ed (a .plan) of) (a .r) _ _ (c .before .before .before .own-bits .ensures) (all .0), omega (arith, all .1))
 
 pub sendable-spec : {M : Type 1} → statement M
-sendable-spec = tie.close (tie.spec own-bits-requires size-requires sub-n sub-n-2 returns)
+sendable-spec = tie.close (tie.spec own-bits-requires size-requires add-carried sub-n sub-n-2 returns)

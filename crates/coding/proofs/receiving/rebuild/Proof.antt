@@ -13,7 +13,7 @@ use Rattle.cutting.specs.Plan.{blocks}
 use Rattle.matching.proofs.Start.{versioned}
 use Rattle.block.proofs.PlanFields.{word-room}
 use Rattle.coding.proofs.Rebuilt.{Walk, walk-none, walk-more, walk-done, block-other, fields, given-here, room-here}
-use Rattle.coding.proofs.Sent.{own-fits, own-room, share-is, share-fits, start-in}
+use Rattle.coding.proofs.Sent.{own-fits, carried-room, share-is, share-fits, start-in}
 use Rattle.coding.proofs.receiving.rebuild.Statement.{statement}
 use Rattle.coding.proofs.receiving.rebuild.Tie as tie
 
@@ -47,8 +47,8 @@ share-of-requires c κs = let st = c .before .before .before .before .before .be
     let a = st .args in
     given-here (now (a .profile)) (a .terms) (now (a .bits)) (a .plan) (st .pre .0)
 
-add-is-sent-as : tie.Need-add-is-sent-as Inv-loop μ-loop
-add-is-sent-as c = let l = c .before .before .before in
+add-is-received : tie.Need-add-is-received Inv-loop μ-loop
+add-is-received c = let l = c .before .before .before in
     let st = l .before .before .before .before .before .before in
     let a = st .args in
     let R = now (a .profile) in
@@ -60,18 +60,18 @@ add-is-sent-as c = let l = c .before .before .before in
     let order : i .r < a .plan .blocks = omega (arith, l) in
     let own = c .before .before .own-bits in
     let e = c .before .share-of in
-    let mine = share-is R (a .plan) k (a .terms) (length s) (i .r) (e .result .0) (ap (λ (x : CodedBits). x .0) (e .ensures)) in
-    let fits = share-fits R (a .plan) k (a .terms) (length s) given (i .r) (i .at) (e .result .0) order (i .inv .2 .stands) mine in
+    let mine = share-is R (a .plan) (a .terms) k (length s) (i .r) (e .result .0) (ap (λ (x : CodedBits). x .0) (e .ensures)) in
+    let fits = share-fits R (a .plan) (a .terms) k (length s) given (i .r) (i .at) (e .result .0) order (i .inv .2 .stands) mine in
     omega (arith, fits, h .receivable .allocated .most)
 
-sub-is-sent-as : tie.Need-sub-is-sent-as Inv-loop μ-loop
-sub-is-sent-as c = search needs
+sub-is-received : tie.Need-sub-is-received Inv-loop μ-loop
+sub-is-received c = search needs
 
-part-is-sent-as-start : tie.Need-part-is-sent-as-start Inv-loop μ-loop
-part-is-sent-as-start c = search needs
+part-is-received-start : tie.Need-part-is-received-start Inv-loop μ-loop
+part-is-received-start c = search needs
 
-part-is-sent-as-end : tie.Need-part-is-sent-as-end Inv-loop μ-loop
-part-is-sent-as-end c = let l = c .before .before .before in
+part-is-received-end : tie.Need-part-is-received-end Inv-loop μ-loop
+part-is-received-end c = let l = c .before .before .before in
     let st = l .before .before .before .before .before .before in
     let a = st .args in
     let R = now (a .profile) in
@@ -83,12 +83,12 @@ part-is-sent-as-end c = let l = c .before .before .before in
     let order : i .r < a .plan .blocks = omega (arith, l) in
     let own = c .before .before .own-bits in
     let e = c .before .share-of in
-    let mine = share-is R (a .plan) k (a .terms) (length s) (i .r) (e .result .0) (ap (λ (x : CodedBits). x .0) (e .ensures)) in
-    let fits = share-fits R (a .plan) k (a .terms) (length s) given (i .r) (i .at) (e .result .0) order (i .inv .2 .stands) mine in
+    let mine = share-is R (a .plan) (a .terms) k (length s) (i .r) (e .result .0) (ap (λ (x : CodedBits). x .0) (e .ensures)) in
+    let fits = share-fits R (a .plan) (a .terms) k (length s) given (i .r) (i .at) (e .result .0) order (i .inv .2 .stands) mine in
     fits
 
-is-sent-as-requires : tie.Need-is-sent-as-requires Inv-loop μ-loop
-is-sent-as-requires c κs = let l = c .before .before .before .before .before in
+is-received-requires : tie.Need-is-received-requires Inv-loop μ-loop
+is-received-requires c κs = let l = c .before .before .before .before .before in
     let st = l .before .before .before .before .before .before in
     let a = st .args in
     let R = now (a .profile) in
@@ -100,14 +100,14 @@ is-sent-as-requires c κs = let l = c .before .before .before .before .before in
     let order : i .r < a .plan .blocks = omega (arith, l) in
     let own = c .before .before .before .before .own-bits in
     let e = c .before .before .before .share-of in
-    let mine = share-is R (a .plan) k (a .terms) (length s) (i .r) (e .result .0) (ap (λ (x : CodedBits). x .0) (e .ensures)) in
-    let fits = share-fits R (a .plan) k (a .terms) (length s) given (i .r) (i .at) (e .result .0) order (i .inv .2 .stands) mine in
+    let mine = share-is R (a .plan) (a .terms) k (length s) (i .r) (e .result .0) (ap (λ (x : CodedBits). x .0) (e .ensures)) in
+    let fits = share-fits R (a .plan) (a .terms) k (length s) given (i .r) (i .at) (e .result .0) order (i .inv .2 .stands) mine in
     let whole : i .at + e .result .0 - i .at ≡ e .result .0 = omega arith in
     let size : length (take (i .at + e .result .0 - i .at) (drop (i .at) s)) ≡ e .result .0 = rw whole (length-part (e .result .0) (i .at) s fits) in
     record {
-      some = record { octets = h .octets; taken = h .receivable .taken; plan = h .plan };
-      own-fits = own-room R (a .plan) k (i .r) (own .result) (own .ensures);
-      starts = omega (arith, start-in R (a .plan) k (a .terms) (versioned _ _ (h .receivable .version)) (a .from) (st .pre .1), i .inv .1, st .pre .2);
+      some = record { edition = a .terms .edition; of = record { octets = h .octets; taken = h .receivable .taken; plan = h .plan } };
+      carried-fits = carried-room R (a .plan) k (i .r) (own .result) (own .ensures);
+      starts = omega (arith, start-in R (a .plan) (a .terms) k (versioned _ _ (h .receivable .version)) (a .from) (st .pre .1), i .inv .1, st .pre .2);
       fits = i .inv .1 ∙ st .pre .2;
       room = omega (arith, size, i .inv .1, st .pre .2, room-here R (a .terms) s (a .plan) h (i .r) (own .result) (e .result .0) order (own .ensures) mine);
       single = bits-take (i .at + e .result .0 - i .at) (drop (i .at) s) (bits-drop (i .at) s (h .receivable .single));
@@ -132,10 +132,10 @@ returns c = let l = c .before .before .before .before .before .before .before .b
     let order : i .r < a .plan .blocks = omega (arith, l) in
     let own = c .before .before .before .before .before .before .before .before .own-bits in
     let e = c .before .before .before .before .before .before .before .share-of in
-    let mine = share-is R (a .plan) k (a .terms) (length s) (i .r) (e .result .0) (ap (λ (x : CodedBits). x .0) (e .ensures)) in
-    let fits = share-fits R (a .plan) k (a .terms) (length s) given (i .r) (i .at) (e .result .0) order (i .inv .2 .stands) mine in
+    let mine = share-is R (a .plan) (a .terms) k (length s) (i .r) (e .result .0) (ap (λ (x : CodedBits). x .0) (e .ensures)) in
+    let fits = share-fits R (a .plan) (a .terms) k (length s) given (i .r) (i .at) (e .result .0) order (i .inv .2 .stands) mine in
     let whole : i .at + e .result .0 - i .at ≡ e .result .0 = omega arith in
-    let is = c .before .before .before .is-sent-as in
+    let is = c .before .before .before .is-received in
     let told = rw whole at (is .ensures .is) in
     record {
       sent = λ q. absurd (true≢false (sym q));
@@ -157,9 +157,9 @@ lay-requires c κs = let l = c .before .before .before .before .before .before .
     let order : i .r < a .plan .blocks = omega (arith, l) in
     let own = c .before .before .before .before .before .before .before .before .before .before .own-bits in
     let e = c .before .before .before .before .before .before .before .before .before .share-of in
-    let mine = share-is R (a .plan) k (a .terms) (length s) (i .r) (e .result .0) (ap (λ (x : CodedBits). x .0) (e .ensures)) in
-    let fits = share-fits R (a .plan) k (a .terms) (length s) given (i .r) (i .at) (e .result .0) order (i .inv .2 .stands) mine in (
-      omega (arith, own-room R (a .plan) k (i .r) (own .result) (own .ensures), word-room R (a .plan) k, c .before .before .before .before .before .is-sent-as .kept .1 .1 .1 .1 .1 .1 .0, i .inv .1, st .pre .2),
+    let mine = share-is R (a .plan) (a .terms) k (length s) (i .r) (e .result .0) (ap (λ (x : CodedBits). x .0) (e .ensures)) in
+    let fits = share-fits R (a .plan) (a .terms) k (length s) given (i .r) (i .at) (e .result .0) order (i .inv .2 .stands) mine in (
+      omega (arith, carried-room R (a .plan) k (i .r) (own .result) (own .ensures), word-room R (a .plan) k, c .before .before .before .before .before .is-received .kept .1 .1 .1 .1 .1 .1 .0, i .inv .1, st .pre .2),
       omega (arith, own-fits R (a .plan) k (i .r) (i .start) (own .result) order (i .inv .2 .starts) (own .ensures), k .cut .bits-high, i .inv .2 .same, st .pre .3),
     )
 
@@ -176,8 +176,8 @@ add-start c = let l = c .before .before .before .before .before .before .before 
     let order : i .r < a .plan .blocks = omega (arith, l) in
     let own = c .before .before .before .before .before .before .before .before .before .before .before .before .before .own-bits in
     let e = c .before .before .before .before .before .before .before .before .before .before .before .before .share-of in
-    let mine = share-is R (a .plan) k (a .terms) (length s) (i .r) (e .result .0) (ap (λ (x : CodedBits). x .0) (e .ensures)) in
-    let fits = share-fits R (a .plan) k (a .terms) (length s) given (i .r) (i .at) (e .result .0) order (i .inv .2 .stands) mine in
+    let mine = share-is R (a .plan) (a .terms) k (length s) (i .r) (e .result .0) (ap (λ (x : CodedBits). x .0) (e .ensures)) in
+    let fits = share-fits R (a .plan) (a .terms) k (length s) given (i .r) (i .at) (e .result .0) order (i .inv .2 .stands) mine in
     omega (arith, own-fits R (a .plan) k (i .r) (i .start) (own .result) order (i .inv .2 .starts) (own .ensures), k .cut .bits-high)
 
 add-at : tie.Need-add-at Inv-loop μ-loop
@@ -193,8 +193,8 @@ add-at c = let l = c .before .before .before .before .before .before .before .be
     let order : i .r < a .plan .blocks = omega (arith, l) in
     let own = c .before .before .before .before .before .before .before .before .before .before .before .before .before .before .own-bits in
     let e = c .before .before .before .before .before .before .before .before .before .before .before .before .before .share-of in
-    let mine = share-is R (a .plan) k (a .terms) (length s) (i .r) (e .result .0) (ap (λ (x : CodedBits). x .0) (e .ensures)) in
-    let fits = share-fits R (a .plan) k (a .terms) (length s) given (i .r) (i .at) (e .result .0) order (i .inv .2 .stands) mine in
+    let mine = share-is R (a .plan) (a .terms) k (length s) (i .r) (e .result .0) (ap (λ (x : CodedBits). x .0) (e .ensures)) in
+    let fits = share-fits R (a .plan) (a .terms) k (length s) given (i .r) (i .at) (e .result .0) order (i .inv .2 .stands) mine in
     omega (arith, fits, h .receivable .allocated .most)
 
 add-r : tie.Need-add-r Inv-loop μ-loop
@@ -216,14 +216,14 @@ loop-again c = let l = c .before .before .before .before .before .before .before
     let order : i .r < a .plan .blocks = omega (arith, l) in
     let own = c .before .before .before .before .before .before .before .before .before .before .before .before .before .before .own-bits in
     let e = c .before .before .before .before .before .before .before .before .before .before .before .before .before .share-of in
-    let mine = share-is R (a .plan) k (a .terms) (length s) (i .r) (e .result .0) (ap (λ (x : CodedBits). x .0) (e .ensures)) in
-    let fits = share-fits R (a .plan) k (a .terms) (length s) given (i .r) (i .at) (e .result .0) order (i .inv .2 .stands) mine in
+    let mine = share-is R (a .plan) (a .terms) k (length s) (i .r) (e .result .0) (ap (λ (x : CodedBits). x .0) (e .ensures)) in
+    let fits = share-fits R (a .plan) (a .terms) k (length s) given (i .r) (i .at) (e .result .0) order (i .inv .2 .stands) mine in
     let whole : i .at + e .result .0 - i .at ≡ e .result .0 = omega arith in
-    let is = c .before .before .before .before .before .before .before .before .before .is-sent-as in
+    let is = c .before .before .before .before .before .before .before .before .before .is-received in
     let told = rw whole at (is .ensures .is) in
     let yes = not-false _ (c .before .before .before .before .before .before .if1 .left) in
     let word = is .last .1 .1 .1 .1 .1 .1 .0 in
-    let has : own .result ≤ length word = omega (arith, own-room R (a .plan) k (i .r) (own .result) (own .ensures), word-room R (a .plan) k, is .kept .1 .1 .1 .1 .1 .1 .0, i .inv .1, st .pre .2) in (
+    let has : own .result ≤ length word = omega (arith, carried-room R (a .plan) k (i .r) (own .result) (own .ensures), word-room R (a .plan) k, is .kept .1 .1 .1 .1 .1 .1 .0, i .inv .1, st .pre .2) in (
       omega (arith, order),
       is .kept .1 .1 .1 .1 .1 .1 .0 ∙ i .inv .1,
       walk-more R (a .terms) s (a .plan) h (i .r) (i .at) (e .result .0) (own .result) (a .from) order (i .inv .2 .stands) mine (own .ensures) (st .pre .1)
@@ -255,11 +255,11 @@ rebuild-spec =
     loop-holds
     own-bits-requires
     share-of-requires
-    add-is-sent-as
-    sub-is-sent-as
-    part-is-sent-as-start
-    part-is-sent-as-end
-    is-sent-as-requires
+    add-is-received
+    sub-is-received
+    part-is-received-start
+    part-is-received-end
+    is-received-requires
     same-length
     same-length-2
     returns

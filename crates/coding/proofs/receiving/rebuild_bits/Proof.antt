@@ -13,12 +13,12 @@ use Rattle.coding.proofs.receiving.rebuild_bits.Statement.{statement}
 use Rattle.coding.proofs.receiving.rebuild_bits.Tie as tie
 
 size-requires : tie.Need-size-requires
-size-requires c κs = let st = c .before .before .before in record { octets = st .pre .0 .octets; taken = st .pre .0 .receivable .taken; plan = st .pre .0 .plan }
+size-requires c κs = let st = c .before .before .before in record { edition = st .args .terms .edition; of = record { octets = st .pre .0 .octets; taken = st .pre .0 .receivable .taken; plan = st .pre .0 .plan } }
 
 start-requires : tie.Need-start-requires
 start-requires c κs =
     let st = c .before .before .before .before in
-    (record { octets = st .pre .0 .octets; taken = st .pre .0 .receivable .taken; plan = st .pre .0 .plan }, omega (arith, versioned _ _ (st .pre .0 .receivable .version)))
+    (record { edition = st .args .terms .edition; of = record { octets = st .pre .0 .octets; taken = st .pre .0 .receivable .taken; plan = st .pre .0 .plan } }, omega (arith, versioned _ _ (st .pre .0 .receivable .version)))
 
 array-borrow-prefix-word : tie.Need-array-borrow-prefix-word
 array-borrow-prefix-word c = c .before .size .ensures .1
@@ -31,7 +31,7 @@ rebuild-requires c κs =
     let st = c .before .before .before .before .before .before .before in
     let a = st .args in
     let size = c .before .before .before .size .ensures in
-    (st .pre .0, start-is (now (a .profile)) (a .plan) (fields (now (a .profile)) (a .terms) (now (a .bits)) (a .plan) (st .pre .0)) (a .terms) _ (c .before .before .start .ensures .0), length-take-le {A = ℕ} _ (replicate 4860 0) (size .1) ∙ size .0, st .pre .1)
+    (st .pre .0, start-is (now (a .profile)) (a .plan) (a .terms) (fields (now (a .profile)) (a .terms) (now (a .bits)) (a .plan) (st .pre .0)) _ (c .before .before .start .ensures .0), length-take-le {A = ℕ} _ (replicate 4860 0) (size .1) ∙ size .0, st .pre .1)
 
 same-length : tie.Need-same-length
 same-length c = search needs

@@ -6,17 +6,17 @@ use lib.ListN.{replicate}
 use lib.Seq.{length-take-le}
 use denote.Ref.{now}
 use borrow.Author.Needs.{needs}
-use Rattle.cutting.proofs.PlanFields.{some-fields}
+use Rattle.cutting.proofs.PlanFields.{of-fields}
 use Rattle.matching.proofs.Start.{versioned}
 use Rattle.coding.proofs.Sent.{start-is}
 use Rattle.coding.proofs.sending.send_bits.Statement.{statement}
 use Rattle.coding.proofs.sending.send_bits.Tie as tie
 
 size-requires : tie.Need-size-requires
-size-requires c κs = let st = c .before .before .before in st .pre .ready .some
+size-requires c κs = let st = c .before .before .before in record { edition = st .args .terms .edition; of = st .pre .ready .of }
 
 start-requires : tie.Need-start-requires
-start-requires c κs = let st = c .before .before .before .before in (st .pre .ready .some, omega (arith, versioned _ _ (st .pre .version)))
+start-requires c κs = let st = c .before .before .before .before in (record { edition = st .args .terms .edition; of = st .pre .ready .of }, omega (arith, versioned _ _ (st .pre .version)))
 
 array-borrow-prefix-room : tie.Need-array-borrow-prefix-room
 array-borrow-prefix-room c = c .before .size .ensures .1
@@ -29,7 +29,7 @@ send-blocks-requires c κs =
     let st = c .before .before .before .before .before .before .before in
     let a = st .args in
     let size = c .before .before .before .size .ensures in
-    (st .pre, start-is (now (a .profile)) (a .plan) (some-fields (now (a .profile)) (a .plan) (st .pre .ready .some)) (a .terms) _ (c .before .before .start .ensures .0), length-take-le {A = ℕ} _ (replicate 4860 0) (size .1) ∙ size .0)
+    (st .pre, start-is (now (a .profile)) (a .plan) (a .terms) (of-fields (now (a .profile)) (a .terms .edition) (a .plan) (st .pre .ready .of)) _ (c .before .before .start .ensures .0), length-take-le {A = ℕ} _ (replicate 4860 0) (size .1) ∙ size .0)
 
 same-length : tie.Need-same-length
 same-length c = search needs

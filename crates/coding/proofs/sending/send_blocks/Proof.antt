@@ -11,20 +11,20 @@ use Rattle.bits.specs.Ranges.{sumBelow}
 use Rattle.bits.specs.declared.count.CodedBits.{CodedBits}
 use Rattle.cutting.specs.Plan.{blocks}
 use Rattle.cutting.specs.Cutting.{ownStart}
-use Rattle.cutting.proofs.PlanFields.{some-fields}
+use Rattle.cutting.proofs.PlanFields.{of-fields}
 use Rattle.matching.proofs.Start.{versioned}
 use Rattle.coding.specs.Allocation.{share}
 use Rattle.coding.specs.Joining.{blockSent, joined, radioBits}
 use Rattle.coding.proofs.Joining.{Joined, joined-none, joined-more, part-rest}
 use Rattle.coding.proofs.Shares.{shares-all}
-use Rattle.coding.proofs.Sent.{start-none, start-turn, own-is, own-fits, own-room, share-is, length-block, share-fits, share-turn, start-in, block-is}
+use Rattle.coding.proofs.Sent.{start-none, start-turn, own-is, own-fits, carried-room, share-is, length-block, share-fits, share-turn, start-in, block-is}
 use Rattle.coding.proofs.sending.send_blocks.Statement.{statement}
 use Rattle.coding.proofs.sending.send_blocks.Tie as tie
 
 abbrev Inv-loop : tie.InvT-loop
 Inv-loop profile plan bits terms g from word₀ out₀ b c start₀ at₀ r₀ word out start at r =
-    (r ≤ plan .blocks) × (start ≡ ownStart profile (plan .bits) r) × (length word ≡ length word₀)
-    × (at ≡ sumBelow r (λ i. share terms (g .0) (blocks profile (plan .bits)) i .0))
+    (r ≤ plan .blocks) × (start ≡ ownStart profile (terms .edition) (plan .bits) r) × (length word ≡ length word₀)
+    × (at ≡ sumBelow r (λ i. share terms (g .0) (blocks profile (terms .edition) (plan .bits)) i .0))
     × Joined (blockSent profile (plan .bits) bits terms (g .0)) out₀ r at out
 
 abbrev μ-loop : tie.MeasureT-loop
@@ -34,15 +34,15 @@ within : (c : tie.In-loop Inv-loop μ-loop) → c .before .loop .at ≤ length (
 within l =
     let st = l .before .before .before .before .before .before in
     let a = st .args in
-    let k = some-fields (now (a .profile)) (a .plan) (st .pre .0 .ready .some) in
+    let k = of-fields (now (a .profile)) (a .terms .edition) (a .plan) (st .pre .0 .ready .of) in
     let i = l .before .loop in
-    omega (arith, share-fits (now (a .profile)) (a .plan) k (a .terms) (a .g .0) (st .pre .0 .allocated) (i .r) (i .at) _ (omega (arith, l)) (i .inv .3) refl, i .inv .4 .same, st .pre .0 .room)
+    omega (arith, share-fits (now (a .profile)) (a .plan) (a .terms) k (a .g .0) (st .pre .0 .allocated) (i .r) (i .at) _ (omega (arith, l)) (i .inv .3) refl, i .inv .4 .same, st .pre .0 .room)
 
 loop-holds : tie.Need-loop-holds Inv-loop μ-loop
 unfolding sumBelow
 loop-holds c =
     let a = c .before .before .before .before .args in
-    (search needs, sym (start-none (now (a .profile)) (a .plan .bits)), refl, refl, joined-none (blockSent (now (a .profile)) (a .plan .bits) (now (a .bits)) (a .terms) (a .g .0)) (now (a .out)))
+    (search needs, sym (start-none (now (a .profile)) (a .terms .edition) (a .plan .bits)), refl, refl, joined-none (blockSent (now (a .profile)) (a .plan .bits) (now (a .bits)) (a .terms) (a .g .0)) (now (a .out)))
 
 own-bits-requires : tie.Need-own-bits-requires Inv-loop μ-loop
 own-bits-requires c κs =
@@ -51,7 +51,7 @@ own-bits-requires c κs =
     let a = st .args in
     let R = now (a .profile) in
     let s = now (a .bits) in
-    let k = some-fields R (a .plan) (st .pre .0 .ready .some) in
+    let k = of-fields R (a .terms .edition) (a .plan) (st .pre .0 .ready .of) in
     let i = l .before .loop in
     (k .cut .bits-high, omega (arith, k .blocks-is, k .cut .some), omega (arith, k .blocks-is, k .cut .most))
 
@@ -74,20 +74,21 @@ send-block-requires c κs =
     let a = st .args in
     let R = now (a .profile) in
     let s = now (a .bits) in
-    let k = some-fields R (a .plan) (st .pre .0 .ready .some) in
+    let k = of-fields R (a .terms .edition) (a .plan) (st .pre .0 .ready .of) in
     let i = l .before .loop in
     let own = c .before .before .before .own-bits in
     let e = c .before .before .share-of in
     let order : i .r < a .plan .blocks = omega (arith, l) in
-    let mine = share-is R (a .plan) k (a .terms) (a .g .0) (i .r) (e .result .0) (ap (λ (x : CodedBits). x .0) (e .ensures)) in
-    let room = share-fits R (a .plan) k (a .terms) (a .g .0) (st .pre .0 .allocated) (i .r) (i .at) (e .result .0) order (i .inv .3) mine in (
+    let mine = share-is R (a .plan) (a .terms) k (a .g .0) (i .r) (e .result .0) (ap (λ (x : CodedBits). x .0) (e .ensures)) in
+    let room = share-fits R (a .plan) (a .terms) k (a .g .0) (st .pre .0 .allocated) (i .r) (i .at) (e .result .0) order (i .inv .3) mine in (
       record {
+        edition = a .terms .edition;
         ready = st .pre .0 .ready;
-        own-fits = own-room R (a .plan) k (i .r) (own .result) (own .ensures);
+        carried-fits = carried-room R (a .plan) k (i .r) (own .result) (own .ensures);
         inside = omega (arith, own-fits R (a .plan) k (i .r) (i .start) (own .result) order (i .inv .1) (own .ensures), st .pre .0 .ready .size);
         fits = i .inv .2 ∙ st .pre .2;
       },
-      omega (arith, start-in R (a .plan) k (a .terms) (versioned _ _ (st .pre .0 .version)) (a .from) (st .pre .1), i .inv .2, st .pre .2),
+      omega (arith, start-in R (a .plan) (a .terms) k (versioned _ _ (st .pre .0 .version)) (a .from) (st .pre .1), i .inv .2, st .pre .2),
       rw part-rest (simp length-drop (omega (arith, room, i .inv .4 .same, st .pre .0 .room))),
     )
 
@@ -98,12 +99,12 @@ add-start c =
     let a = st .args in
     let R = now (a .profile) in
     let s = now (a .bits) in
-    let k = some-fields R (a .plan) (st .pre .0 .ready .some) in
+    let k = of-fields R (a .terms .edition) (a .plan) (st .pre .0 .ready .of) in
     let i = c .before .before .before .before .before .before .before .before .before .before .loop in
     let own = c .before .before .before .before .before .before .before .before .own-bits in
     let e = c .before .before .before .before .before .before .before .share-of in
     let order : i .r < a .plan .blocks = omega (arith, l) in
-    let mine = share-is R (a .plan) k (a .terms) (a .g .0) (i .r) (e .result .0) (ap (λ (x : CodedBits). x .0) (e .ensures)) in
+    let mine = share-is R (a .plan) (a .terms) k (a .g .0) (i .r) (e .result .0) (ap (λ (x : CodedBits). x .0) (e .ensures)) in
     let fits = own-fits R (a .plan) k (i .r) (i .start) (own .result) order (i .inv .1) (own .ensures) in
     omega (arith, fits, k .cut .bits-high)
 
@@ -114,13 +115,13 @@ add-at c =
     let a = st .args in
     let R = now (a .profile) in
     let s = now (a .bits) in
-    let k = some-fields R (a .plan) (st .pre .0 .ready .some) in
+    let k = of-fields R (a .terms .edition) (a .plan) (st .pre .0 .ready .of) in
     let i = c .before .before .before .before .before .before .before .before .before .before .before .loop in
     let own = c .before .before .before .before .before .before .before .before .before .own-bits in
     let e = c .before .before .before .before .before .before .before .before .share-of in
     let order : i .r < a .plan .blocks = omega (arith, l) in
-    let mine = share-is R (a .plan) k (a .terms) (a .g .0) (i .r) (e .result .0) (ap (λ (x : CodedBits). x .0) (e .ensures)) in
-    let room = share-fits R (a .plan) k (a .terms) (a .g .0) (st .pre .0 .allocated) (i .r) (i .at) (e .result .0) order (i .inv .3) mine in
+    let mine = share-is R (a .plan) (a .terms) k (a .g .0) (i .r) (e .result .0) (ap (λ (x : CodedBits). x .0) (e .ensures)) in
+    let room = share-fits R (a .plan) (a .terms) k (a .g .0) (st .pre .0 .allocated) (i .r) (i .at) (e .result .0) order (i .inv .3) mine in
     let fits = own-fits R (a .plan) k (i .r) (i .start) (own .result) order (i .inv .1) (own .ensures) in
     omega (arith, room, fits, k .cut .bits-high, st .pre .0 .allocated .most)
 
@@ -137,22 +138,22 @@ loop-again c =
     let a = st .args in
     let R = now (a .profile) in
     let s = now (a .bits) in
-    let k = some-fields R (a .plan) (st .pre .0 .ready .some) in
+    let k = of-fields R (a .terms .edition) (a .plan) (st .pre .0 .ready .of) in
     let i = c .before .before .before .before .before .before .before .before .before .before .before .loop in
     let own = c .before .before .before .before .before .before .before .before .before .own-bits in
     let e = c .before .before .before .before .before .before .before .before .share-of in
     let order : i .r < a .plan .blocks = omega (arith, l) in
-    let mine = share-is R (a .plan) k (a .terms) (a .g .0) (i .r) (e .result .0) (ap (λ (x : CodedBits). x .0) (e .ensures)) in
+    let mine = share-is R (a .plan) (a .terms) k (a .g .0) (i .r) (e .result .0) (ap (λ (x : CodedBits). x .0) (e .ensures)) in
     let sent = c .before .before .before .before .before .send-block in
     let f = blockSent R (a .plan .bits) s (a .terms) (a .g .0) in
-    let turn = start-turn R (a .plan .bits) (i .r) in
+    let turn = start-turn R (a .terms .edition) (a .plan .bits) (i .r) in
     let here = own-is R (a .plan) k (i .r) (own .result) (own .ensures) in
-    let written = sent .ensures ∙ ap (λ (x : List ℕ). x ++ drop (e .result .0) (take (length (i .out) - i .at) (drop (i .at) (i .out)))) (block-is R (a .plan) k (a .terms) (a .g .0) s (i .r) (i .start) (own .result) (a .from) (e .result .0) (i .inv .1) (own .ensures) (st .pre .1) mine) in (
+    let written = sent .ensures ∙ ap (λ (x : List ℕ). x ++ drop (e .result .0) (take (length (i .out) - i .at) (drop (i .at) (i .out)))) (block-is R (a .plan) (a .terms) k (a .g .0) s (i .r) (i .start) (own .result) (a .from) (e .result .0) (i .inv .1) (own .ensures) (st .pre .1) mine) in (
       omega (arith, order),
       omega (arith, turn, here, i .inv .1),
       omega (arith, sent .kept .1 .1 .1 .1 .1 .1 .1 .0, i .inv .2),
-      omega (arith, share-turn R (a .plan) k (a .terms) (a .g .0) (i .r) (i .at) (e .result .0) (i .inv .3) mine),
-      joined-more f (now (a .out)) (i .out) (sent .last .1 .1 .1 .1 .1 .1 .1 .1 .0) (i .r) (i .at) (e .result .0) _ (omega arith) (i .inv .4) (length-block R (a .plan) k (a .terms) (a .g .0) s (i .r) ∙ sym mine) written (c .before .before .out .given .1),
+      omega (arith, share-turn R (a .plan) (a .terms) k (a .g .0) (i .r) (i .at) (e .result .0) (i .inv .3) mine),
+      joined-more f (now (a .out)) (i .out) (sent .last .1 .1 .1 .1 .1 .1 .1 .1 .0) (i .r) (i .at) (e .result .0) _ (omega arith) (i .inv .4) (length-block R (a .plan) (a .terms) k (a .g .0) s (i .r) ∙ sym mine) written (c .before .before .out .given .1),
     )
 
 same-length : tie.Need-same-length Inv-loop μ-loop
@@ -168,14 +169,14 @@ returns c =
     let a = st .args in
     let R = now (a .profile) in
     let s = now (a .bits) in
-    let k = some-fields R (a .plan) (st .pre .0 .ready .some) in
+    let k = of-fields R (a .terms .edition) (a .plan) (st .pre .0 .ready .of) in
     let i = c .before .loop in
-    let all : blocks R (a .plan .bits) ≡ i .r = omega (arith, k .blocks-is, i .inv .0, c) in
+    let all : blocks R (a .terms .edition) (a .plan .bits) ≡ i .r = omega (arith, k .blocks-is, i .inv .0, c) in
     let f = blockSent R (a .plan .bits) s (a .terms) (a .g .0) in
     let given = rw (k .blocks-is) at (st .pre .0 .allocated) in
     let end : i .at ≡ a .g .0 =
-    i .inv .3 ∙ ap (λ (n : ℕ). sumBelow n (λ j. share (a .terms) (a .g .0) (blocks R (a .plan .bits)) j .0)) (sym all)
-    ∙ shares-all (a .terms) (a .g .0) (blocks R (a .plan .bits)) given in
+    i .inv .3 ∙ ap (λ (n : ℕ). sumBelow n (λ j. share (a .terms) (a .g .0) (blocks R (a .terms .edition) (a .plan .bits)) j .0)) (sym all)
+    ∙ shares-all (a .terms) (a .g .0) (blocks R (a .terms .edition) (a .plan .bits)) given in
     i .inv .4 .is ∙ ap₂ (λ (n at : ℕ). joined n f ++ drop at (now (a .out))) (sym all) end
 
 pub send-blocks-spec : {M : Type 1} → statement M

@@ -7,10 +7,10 @@ use Rattle.desk.proofs.plan.rows.Statement.{statement}
 use Rattle.desk.proofs.plan.rows.Tie as tie
 
 abbrev Inv-loop : tie.InvT-loop
-Inv-loop profile plan octets page₀ from at₀ r₀ page at r = length page ≡ length page₀
+Inv-loop profile plan asked page₀ from at₀ r₀ page at r = length page ≡ length page₀
 
 abbrev μ-loop : tie.MeasureT-loop
-μ-loop profile plan octets page₀ from at₀ r₀ page at r = plan .blocks - r
+μ-loop profile plan asked page₀ from at₀ r₀ page at r = plan .blocks - r
 
 loop-holds : tie.Need-loop-holds Inv-loop μ-loop
 loop-holds c = search needs

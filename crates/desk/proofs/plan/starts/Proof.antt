@@ -4,23 +4,21 @@ use denote.Ref.{now}
 use borrow.Author.Needs.{needs}
 use Rattle.cutting.specs.steps.Plans.{SomePlan}
 use Rattle.cutting.proofs.Plans.{plan-number}
-use Rattle.cutting.proofs.PlanFields.{PlanFields, some-fields}
+use Rattle.cutting.proofs.PlanFields.{some-fields}
 use Rattle.desk.proofs.plan.starts.Statement.{statement}
 use Rattle.desk.proofs.plan.starts.Tie as tie
 
 some : (c : tie.Start) → SomePlan (now (c .args .profile)) (c .args .plan)
 some c =
-    record {
-      octets = c .args .octets;
-      taken = sym (plan-number (now (c .args .profile)) (c .args .octets) (c .args .plan) (c .pre .1)) ∙ c .pre .0;
-      plan = c .pre .1;
-    }
-
-known : (c : tie.Start) → PlanFields (now (c .args .profile)) (c .args .plan)
-known c = some-fields (now (c .args .profile)) (c .args .plan) (some c)
+    let asked = c .args .asked in
+    let R = now (c .args .profile) in
+    let taken = sym (plan-number R (asked .terms .edition) (asked .octets) (c .args .plan) (c .pre .1)) ∙ c .pre .0 in
+    record { edition = asked .terms .edition; of = record { octets = asked .octets; taken = taken; plan = c .pre .1 } }
 
 kind-requires : tie.Need-kind-requires
-kind-requires c κs = known (c .before .before) .accepted
+kind-requires c κs =
+    let st = c .before .before in
+    some-fields (now (st .args .profile)) (st .args .plan) (some st) .accepted
 
 returns : tie.Need-returns
 returns c = search needs

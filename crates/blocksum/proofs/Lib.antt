@@ -1,0 +1,3 @@
+pub mod Generator
+pub mod Answers
+pub mod Agreement

@@ -1,0 +1,2 @@
+pub mod Blocksum
+pub mod Promises
