@@ -13,9 +13,8 @@ use Rattle.bits.specs.declared.count.Terms.{Terms}
 use Rattle.bits.proofs.Ranges.{below-or, equal-or, any-of, any-none, none-any, first-is}
 use Rattle.bits.proofs.Rounding.{ceil-covers, ceil-least, ceil-some}
 use Rattle.bits.proofs.Sums.{sum-same, sum-le, sum-const}
-use Rattle.profile.specs.Record.{kb, z, rows}
-use Rattle.profile.proofs.Shape.{columns-is}
-use Rattle.cutting.specs.Plan.{blockBits, sumBits, blocks, ownBits, carriedBits, sizeIndex, filler}
+use Rattle.profile.specs.Record.{z, rows}
+use Rattle.cutting.specs.Plan.{blockBits, sumBits, blocks, ownBits, carriedBits, sizeIndex}
 use Rattle.cutting.proofs.Plans.{Cut}
 use Rattle.cutting.proofs.Rounding.{below, own-parts, own-sum, parts-sum, parts-own}
 use Rattle.coding.specs.Blocks.{sendable}
@@ -23,6 +22,7 @@ use Rattle.coding.specs.Allocation.{symbolPlaces, spare, share}
 use Rattle.coding.specs.Receiving.{someWithoutRoom}
 use Rattle.coding.specs.Promises.{tooFewPlaces}
 use Rattle.coding.proofs.Shares.{share-places}
+use Rattle.coding.proofs.Sent.{sendable-parts}
 use Rattle.advice.specs.Least.{hasRoom, allocations, roomAt, someRoom, leastBits}
 use Rattle.advice.specs.steps.Counting.{placesFor, placesForAll}
 
@@ -61,10 +61,9 @@ module _ (R : List ℕ) (octets : ℕ) (terms : Terms) (cut : Cut R (terms .edit
   abbrev c : ℕ
   c = blocks R ed b
 
-  -- a block's places past what it carries and its parity bits are its filler
   sendable-is : (r : ℕ) → sendable R ed b r ≡ ownBits b c r + sumBits R ed b + rows R * z R (sizeIndex R ed b)
-  unfolding sendable filler carriedBits
-  sendable-is r = omega (arith, cut .product, ap (λ (n : ℕ). n * z R (sizeIndex R ed b)) (columns-is R), add-mul (kb R) (rows R) (z R (sizeIndex R ed b)), cut .own-most r, cut .room)
+  unfolding carriedBits
+  sendable-is r = sendable-parts R ed b cut r
 
   module _ (some : 0 < placeBits terms) where
     -- ---- what the blocks take: the first may take one symbol place more than the others

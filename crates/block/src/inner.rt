@@ -1,5 +1,5 @@
 // Steps 3 to 6 of document 01 for one code block, for the crate above, which has cut the transport block: its places, its parity bits, and its share of
-// the radio bits from the place that its version starts at. Behind its places a block is what it carries: where its checksum is, nobody asks.
+// the radio bits from the place that its version starts at. Parity and rate matching know what a block carries, and not that a checksum is in it.
 use bits::count::CodedBits;
 use checking::Checker;
 use cutting::Plan;

@@ -1,13 +1,13 @@
 -- The received bits, stretch by stretch: where every block has room there is one list of transport bits that they can have been sent for, and
 -- it is what the receiver gathers.
-use mathlib.Core.Path.{_≡_, refl, sym, ap, ap₂, _∙_, subst}
+use mathlib.Core.Path.{_≡_, refl, sym, ap, ap₂, _∙_}
 use mathlib.Core.List.{List}
 use Prim.Native.Nat.{ℕ, suc, _+_, _-_, _*_, _≤_, _<_}
 use native.Mathlib.Nat.{add-mul, le-mul-of-pos-right, mul-comm}
 use native.Mathlib.Omega.{arith}
 use borrow.Author.Tests.{ltb-false}
 use lib.Dec.{ltb}
-use lib.ListN.{length, getD, take, drop}
+use lib.ListN.{length, take, drop}
 use lib.Seq.{take-all, length-take-le}
 use Rattle.bits.specs.Bits.{AreBits}
 use Rattle.bits.specs.Ranges.{sumBelow}
@@ -17,9 +17,10 @@ use Rattle.bits.proofs.Ranges.{none-any}
 use Rattle.bits.proofs.Sums.{sum-same, sum-mono}
 use Rattle.profile.specs.Record.{kb, kind, z, rows, columns, table}
 use Rattle.profile.proofs.Shape.{columns-is}
-use Rattle.cutting.specs.Plan.{blockBits, sumBits, blocks, ownBits, carriedBits, sizeIndex, places, filler}
+use Rattle.cutting.specs.Plan.{blockBits, sumBits, blocks, ownBits, carriedBits, sizeIndex, places}
 use Rattle.cutting.specs.Cutting.{ownStart, own, carried, systematic}
-use Rattle.cutting.proofs.Summed.{is-sum, length-with-sum, with-sum-bits, with-sum-front}
+use Rattle.cutting.proofs.Summed.{with-sum-front}
+use Rattle.cutting.proofs.Carried.{carried-bits, carried-fits, own-size, carried-size}
 use Rattle.cutting.proofs.Plans.{Cut, plan-cut}
 use Rattle.matching.specs.steps.Places.{keptBefore}
 use Rattle.matching.specs.steps.Line.{heard}
@@ -35,7 +36,7 @@ use Rattle.coding.specs.steps.Sending.{versionStart}
 use Rattle.coding.specs.steps.Receiving.{shareStart, stretch, carriedReceived, ownReceived, gathered, Receivable}
 use Rattle.coding.proofs.Joining.{length-joined, joined-stretch, joined-same, joined-bits, joined-cut}
 use Rattle.coding.proofs.Shares.{shares-all}
-use Rattle.coding.proofs.Sent.{block-length, block-sent-is}
+use Rattle.coding.proofs.Sent.{block-length, block-sent-is, sendable-parts}
 
 -- bits in which every block has room for its coded bits that are not filler
 pub record HasRoom (R : List ℕ) (b : ℕ) (terms : Terms) (bits : List ℕ) : Type 0 where
@@ -90,16 +91,8 @@ module _ (R : List ℕ) (b : ℕ) (terms : Terms) (bits : List ℕ) (h : HasRoom
   unfolding carriedBits
   load-is r = refl
 
-  load-fits : (r : ℕ) → load r ≤ places R ed b
-  load-fits r = omega (arith, load-is r, cut .own-most r, cut .room)
-
-  -- N is what the block carries and its parity bits
-  sendable-is : (r : ℕ) → sendable R ed b r ≡ load r + rows R * z R (sizeIndex R ed b)
-  unfolding sendable filler
-  sendable-is r = omega (arith, cut .product, ap (λ (n : ℕ). n * z R (sizeIndex R ed b)) (columns-is R), add-mul (kb R) (rows R) (z R (sizeIndex R ed b)), load-fits r)
-
   pub has-room : (r : ℕ) → r < c → load r + rows R * z R (sizeIndex R ed b) ≤ given r
-  has-room r l = omega (arith, sendable-is r, h .room r l)
+  has-room r l = omega (arith, sendable-parts R ed b cut r, h .room r l)
 
   -- the stretches are all that was received
   stretches-end : at c ≡ g
@@ -140,22 +133,22 @@ module _ (R : List ℕ) (b : ℕ) (terms : Terms) (bits : List ℕ) (h : HasRoom
   behind : total - places R ed b ≡ rows R * z R (sizeIndex R ed b)
   behind = omega (arith, cut .product, ap (λ (n : ℕ). n * z R (sizeIndex R ed b)) (columns-is R), add-mul (kb R) (rows R) (z R (sizeIndex R ed b)))
 
-  pub carried-length : (r : ℕ) → r < c → length (carriedReceived R b terms bits r) ≡ load r
-  carried-length r l =
+  pub load-length : (r : ℕ) → r < c → length (carriedReceived R b terms bits r) ≡ load r
+  load-length r l =
       let n : ℕ = load r + (total - places R ed b) in
       let k : ℕ = keptBefore (load r) (places R ed b) (versionStart R b terms) in
       let long = in-line-length n k (stretch R b terms bits r) (omega (arith, has-room r l, stretch-length r l, behind)) in
       ap length (carried-is r) ∙ length-take-le (load r) (lined (load r) (stretch R b terms bits r)) (omega (arith, long))
 
-  pub carried-bits : (r : ℕ) → AreBits (carriedReceived R b terms bits r)
+  pub load-bits : (r : ℕ) → AreBits (carriedReceived R b terms bits r)
   unfolding carriedReceived stretch
-  carried-bits r =
+  load-bits r =
       bits-take (load r) (lined (load r) (stretch R b terms bits r))
       (in-line-bits _ _ (stretch R b terms bits r) (bits-take (given r) (drop (at r) bits) (bits-drop (at r) bits (h .single))))
 
   received-length : (r : ℕ) → r < c → length (ownReceived R b terms bits r) ≡ mine r
   received-length r l =
-      ap length (received-is r) ∙ length-take-le (mine r) (carriedReceived R b terms bits r) (omega (arith, carried-length r l, load-is r))
+      ap length (received-is r) ∙ length-take-le (mine r) (carriedReceived R b terms bits r) (omega (arith, load-length r l, load-is r))
 
   pub front-length : (r : ℕ) → r ≤ c → length (joined r (ownReceived R b terms bits)) ≡ ownStart R (terms .edition) b r
   unfolding ownStart
@@ -168,7 +161,7 @@ module _ (R : List ℕ) (b : ℕ) (terms : Terms) (bits : List ℕ) (h : HasRoom
   pub gathered-bits : AreBits (gathered R b terms bits)
   unfolding gathered ownReceived
   gathered-bits =
-      joined-bits (ownReceived R b terms bits) c (λ r l. bits-take (mine r) (carriedReceived R b terms bits r) (carried-bits r))
+      joined-bits (ownReceived R b terms bits) c (λ r l. bits-take (mine r) (carriedReceived R b terms bits r) (load-bits r))
 
   -- block r's own bits are those that stand at the beginning of its stretch, once it is in line
   pub own-gathered : (r : ℕ) → r < c → own R (terms .edition) b t r ≡ ownReceived R b terms bits r
@@ -218,22 +211,8 @@ module _ (R : List ℕ) (b : ℕ) (terms : Terms) (bits : List ℕ) (h : HasRoom
 
     -- they are the gathered ones
     module _ (size : length u ≡ b) (single : AreBits u) where
-      own-part : (r : ℕ) → own R ed b u r ≡ take (mine r) (drop (ownStart R ed b r) u)
-      unfolding own
-      own-part r = refl
-
-      own-size : (r : ℕ) → r < c → length (own R ed b u r) ≡ mine r
-      unfolding ownStart sumBelow
-      own-size r l =
-          let within : suc r ≤ c = omega arith in
-          ap length (own-part r) ∙ length-part (mine r) (ownStart R ed b r) u (omega (arith, size, cut .own-sum, sum-mono mine (suc r) c within))
-
-      own-single : (r : ℕ) → AreBits (own R ed b u r)
-      own-single r k = subst (λ (s : List ℕ). getD s k 0 < 2) (sym (own-part r)) (bits-take (mine r) (drop (ownStart R ed b r) u) (bits-drop (ownStart R ed b r) u single) k)
-
-      carried-size : (r : ℕ) → r < c → length (carried R ed b u r) ≡ load r
-      unfolding carried
-      carried-size r l = length-with-sum (sumBits R ed b) (own R ed b u r) (is-sum R ed b) ∙ omega (arith, own-size r l, load-is r)
+      sized : (r : ℕ) → r < c → length (carried R ed b u r) ≡ load r
+      sized = carried-size R ed b u cut size
 
       carried-begins : (r : ℕ) → r < c → take (length (carried R ed b u r)) (lined (length (carried R ed b u r)) (blockSent R b u terms g r)) ≡ carried R ed b u r
       unfolding codedBlock systematic carried
@@ -244,26 +223,25 @@ module _ (R : List ℕ) (b : ℕ) (terms : Terms) (bits : List ℕ) (h : HasRoom
           let more : y ≤ y * rows R = le-mul-of-pos-right y (omega (arith, cut .known .rows-low)) in
           let some : 0 < rows R * y = omega (arith, mul-comm y (rows R), more, low) in
           let law = heard-own (table R (sizeIndex R ed b)) (carried R ed b u r) (kb R) (rows R) (columns R) y (columns-is R)
-          (with-sum-bits (sumBits R ed b) (own R ed b u r) (own-single r))
-          (omega (arith, carried-size r l, load-fits r, product)) (versionStart R b terms) (given r) (h .starts) some (omega (arith, carried-size r l, has-room r l)) in
+          (carried-bits R ed b u single r) (omega (arith, sized r l, carried-fits R ed b cut r, product)) (versionStart R b terms) (given r) (h .starts) some (omega (arith, sized r l, has-room r l)) in
           ap (λ (s : List ℕ). take (length (carried R ed b u r)) (lined (length (carried R ed b u r)) s)) (block-sent-is R b u terms g r cut) ∙ rw product law
 
       module _ (e : radioBits R b u terms g ≡ bits) where
         pub carried-sent : (r : ℕ) → r < c → carried R (terms .edition) b u r ≡ carriedReceived R b terms bits r
         unfolding stretch
         carried-sent r l =
-            sym (carried-begins r l) ∙ ap₂ (λ (n : ℕ) (s : List ℕ). take n (lined n s)) (carried-size r l) (stretch-sent e r l) ∙ sym (carried-is r)
+            sym (carried-begins r l) ∙ ap₂ (λ (n : ℕ) (s : List ℕ). take n (lined n s)) (sized r l) (stretch-sent e r l) ∙ sym (carried-is r)
 
         -- the own bits are those in front of what is carried
         own-sent : (r : ℕ) → r < c → own R ed b u r ≡ ownReceived R b terms bits r
         unfolding carried
         own-sent r l =
-            sym (with-sum-front (sumBits R ed b) (own R ed b u r)) ∙ ap₂ take (own-size r l) (carried-sent r l) ∙ sym (received-is r)
+            sym (with-sum-front (sumBits R ed b) (own R ed b u r)) ∙ ap₂ take (own-size R ed b u cut size r l) (carried-sent r l) ∙ sym (received-is r)
 
         pub sent-gathered : u ≡ t
-        unfolding gathered ownStart
+        unfolding gathered own ownStart
         sent-gathered =
             sym (take-all b u (omega (arith, size)))
             ∙ ap (λ (n : ℕ). take n u) (sym (cut .own-sum))
             ∙ sym (joined-cut mine u c)
-            ∙ joined-same (λ r. take (mine r) (drop (ownStart R ed b r) u)) (ownReceived R b terms bits) c (λ r l. sym (own-part r) ∙ own-sent r l)
+            ∙ joined-same (λ r. take (mine r) (drop (ownStart R ed b r) u)) (ownReceived R b terms bits) c (λ r l. own-sent r l)

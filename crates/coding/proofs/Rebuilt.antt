@@ -30,7 +30,7 @@ use Rattle.coding.specs.Joining.{blockSent, joined, radioBits}
 use Rattle.coding.specs.steps.Shares.{Allocated}
 use Rattle.coding.specs.steps.Sending.{versionStart}
 use Rattle.coding.specs.steps.Receiving.{shareStart, stretch, carriedReceived, ownReceived, gathered, ReceivablePlan}
-use Rattle.coding.proofs.Gathered.{HasRoom, has-room-of, has-room, carried-length, carried-bits, gathered-length, gathered-bits, own-gathered, stretch-sent, all-sent, carried-sent}
+use Rattle.coding.proofs.Gathered.{HasRoom, has-room-of, has-room, load-length, load-bits, gathered-length, gathered-bits, own-gathered, stretch-sent, all-sent, carried-sent}
 use Rattle.coding.proofs.Sent.{start-none, start-turn, own-is, carried-is, own-fits, share-fits, share-turn, block-sent-is}
 
 -- the blocks before r were tested and are what the gathered bits are sent as, and their own bits stand in front of room
@@ -133,9 +133,9 @@ module _ (R : List ℕ) (terms : Terms) (bits : List ℕ) (p : Plan) (h : Receiv
     unfolding carried
     load-sum holds =
         let k = fields in
-        let long : length load ≡ n + p .sums = ap length load-here ∙ carried-length R (p .bits) terms bits room-everywhere r inside ∙ sym (carried-is R p k r n q) in
+        let long : length load ≡ n + p .sums = ap length load-here ∙ load-length R (p .bits) terms bits room-everywhere r inside ∙ sym (carried-is R p k r n q) in
         let own-count : length load - p .sums ≡ n = omega arith in
-        holds-with-sum (p .sums) load (plan-sum R p k) (rw load-here (carried-bits R (p .bits) terms bits room-everywhere r)) (omega arith) holds
+        holds-with-sum (p .sums) load (plan-sum R p k) (rw load-here (load-bits R (p .bits) terms bits room-everywhere r)) (omega arith) holds
         ∙ ap₂ (λ (i j : ℕ). withSum i (take j load)) (k .sums-is) own-count ∙ ap (withSum _) own-there
 
     -- and so do the received bits, where the gathered ones are sent as them

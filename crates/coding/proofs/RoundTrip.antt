@@ -16,15 +16,15 @@ use Rattle.bits.specs.declared.number.Written.{Written}
 use Rattle.bits.specs.declared.count.Terms.{Terms}
 use Rattle.bits.proofs.Answers.{applies, passes, none-left, Refusals, last-part, when-done, when-refused}
 use Rattle.bits.proofs.Digits.{digits-bits}
-use Rattle.bits.proofs.Lists.{bits-append, bits-take, bits-drop}
+use Rattle.bits.proofs.Lists.{bits-append}
 use Rattle.bits.proofs.Over.{bits-not-over}
 use Rattle.bits.proofs.Ranges.{below-or}
 use Rattle.bits.proofs.Sums.{sum-same}
 use Rattle.profile.specs.Record.{kind, z, rows, columns, table}
-use Rattle.cutting.specs.Plan.{blockBits, sumBits, blocks, ownBits, sizeIndex, places}
+use Rattle.cutting.specs.Plan.{blockBits, blocks, sizeIndex, places}
 use Rattle.cutting.specs.Transport.{transport}
-use Rattle.cutting.specs.Cutting.{ownStart, own, carried, systematic}
-use Rattle.cutting.proofs.Summed.{with-sum-bits}
+use Rattle.cutting.specs.Cutting.{carried, systematic}
+use Rattle.cutting.proofs.Carried.{carried-bits}
 use Rattle.cutting.proofs.Plans.{plan-passed, plan-cut}
 use Rattle.cutting.proofs.Transported.{transport-bits}
 use Rattle.parity.specs.Coded.{withParity, checksWith, coded}
@@ -109,11 +109,6 @@ turned-marks : (k : ℕ) (s : List ℕ) → AreMarks s → AreMarks (turned k s)
 unfolding turned
 turned-marks k s h = marks-append (drop k s) (take k s) (marks-drop k s h) (marks-take k s h)
 
-carried-bits : (R : List ℕ) (ed b : ℕ) (bits : List ℕ) (r : ℕ) → AreBits bits → AreBits (carried R ed b bits r)
-unfolding own carried
-carried-bits R ed b bits r h =
-    with-sum-bits (sumBits R ed b) (own R ed b bits r) (bits-take (ownBits b (blocks R ed b) r) (drop (ownStart R ed b r) bits) (bits-drop (ownStart R ed b r) bits h))
-
 filled-marks : (n : ℕ) (mine : List ℕ) → AreBits mine → AreMarks (withFiller n mine)
 unfolding withFiller
 filled-marks n mine h = marks-append mine (replicate (n - length mine) 2) (marks-bits mine h) (marks-filler (n - length mine))
@@ -127,7 +122,7 @@ block-bits R b bits terms g r h =
     matched-bits (turned d (codedBlock R ed b bits r)) (share terms g (blocks R ed b) r .0)
     (turned-marks d (codedBlock R ed b bits r)
     (coded-marks (table R i) (rows R) (columns R) (z R i) (withFiller (places R ed b) (carried R ed b bits r))
-    (filled-marks (places R ed b) (carried R ed b bits r) (carried-bits R ed b bits r h))))
+    (filled-marks (places R ed b) (carried R ed b bits r) (carried-bits R ed b bits h r))))
 
 pub sent-bits : (R : List ℕ) (b : ℕ) (bits : List ℕ) (terms : Terms) (g : ℕ) → AreBits bits → AreBits (radioBits R b bits terms g)
 unfolding radioBits

@@ -2,6 +2,7 @@
 use mathlib.Core.Path.{_≡_, refl, sym, ap, ap₂, _∙_}
 use mathlib.Core.List.{List}
 use Prim.Native.Nat.{ℕ, suc, _+_, _-_, _*_, _≤_, _<_}
+use native.Mathlib.Nat.{add-mul}
 use native.Mathlib.Numerals.{add-one}
 use native.Mathlib.Omega.{arith}
 use lib.ListN.{length, take, drop}
@@ -19,6 +20,7 @@ use Rattle.cutting.specs.Cutting.{ownStart, own, withSum, carried, systematic}
 use Rattle.cutting.specs.declared.Plan.{Plan}
 use Rattle.cutting.proofs.Summed.{is-sum, length-with-sum}
 use Rattle.cutting.proofs.Plans.{Cut}
+use Rattle.cutting.proofs.Carried.{carried-fits}
 use Rattle.cutting.proofs.PlanFields.{PlanFields}
 use Rattle.parity.specs.Coded.{coded}
 use Rattle.parity.proofs.Coded.{coded-length}
@@ -41,6 +43,14 @@ start-none R ed b = refl
 pub start-turn : (R : List ℕ) (ed b r : ℕ) → ownStart R ed b (r + 1) ≡ ownStart R ed b r + ownBits b (blocks R ed b) r
 unfolding ownStart sumBelow
 start-turn R ed b r = rw add-one
+
+-- ---- N is what a block carries and its parity bits
+
+pub sendable-parts : (R : List ℕ) (ed b : ℕ) → Cut R ed b → (r : ℕ) → sendable R ed b r ≡ carriedBits R ed b r + rows R * z R (sizeIndex R ed b)
+unfolding sendable filler
+sendable-parts R ed b cut r =
+    let y = z R (sizeIndex R ed b) in
+    omega (arith, cut .product, ap (λ (n : ℕ). n * y) (columns-is R), add-mul (kb R) (rows R) y, carried-fits R ed b cut r)
 
 -- ---- the coded word and its start
 

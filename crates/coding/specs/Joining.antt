@@ -1,5 +1,5 @@
--- The radio bits (document 01, steps 5 and 6; document 02, CR 3): the blocks' bits one behind the other. R is the profile's record, b is B, bits the transport bits; the
--- edition is one of the terms.
+-- The radio bits (document 01, steps 5 and 6; document 02, CR 3): the blocks' bits one behind the other. R is the profile's record, b is B, bits the transport
+-- bits; the edition is one of the terms.
 use mathlib.Core.List.{List, [], _++_}
 use Prim.Native.Nat.{ℕ, zero, suc}
 use Rattle.bits.specs.declared.count.Terms.{Terms}

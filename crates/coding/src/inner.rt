@@ -50,7 +50,7 @@ pub fn share_of(terms: Terms, g: CodedBits, c: usize, r: usize) -> CodedBits
     coded_bits(SymbolPlaces(each), terms)
 }
 
-// N of block r: its coded places less its filler, which is its places less what it carries. A plan tells of its edition what is needed here.
+// N of block r: its coded places less its filler, which is its places less what it carries. The plan has L, whichever edition it is of.
 pub fn sendable(profile: &[u8], plan: Plan, r: usize) -> CodedBits
     requires { ⌜ SomePlan (now profile) plan ⌝ }
     ensures { λ n. ⌜ ((ed : ℕ) → PlanOf (now (profile .entry)) ed plan → n .0 ≡ sendable (now (profile .entry)) ed (plan .bits) r) × (n .0 ≤ 4860) ⌝ }

@@ -9,7 +9,7 @@ use Rattle.cutting.specs.Promises.{planNumber, planned}
 use Rattle.cutting.specs.declared.Plan.{Plan}
 use Rattle.cutting.specs.steps.Plans.{PlanOf, SomePlan, IsSum}
 use Rattle.cutting.proofs.Summed.{is-sum}
-use Rattle.cutting.proofs.Plans.{Cut, plan-passed, plan-cut, plan-bits, plan-blocks, plan-places, plan-z, plan-index, plan-sums}
+use Rattle.cutting.proofs.Plans.{Cut, plan-number, plan-passed, plan-cut, plan-bits, plan-blocks, plan-places, plan-z, plan-index, plan-sums}
 
 -- ---- the plan's fields, by the edition and the count of transport bits
 
@@ -42,6 +42,10 @@ module _ (R : List ℕ) (ed octets : ℕ) (p : Plan) (plan : p ≡ planned R ed 
 
     pub blocks-are : p .blocks ≡ blocks R ed (blockBits octets)
     blocks-are = plan-blocks R ed octets p plan e
+
+-- a plan with number 0 is one
+pub plan-of : (R : List ℕ) (ed octets : ℕ) (p : Plan) → p ≡ planned R ed octets → p .number ≡ 0 → PlanOf R ed p
+plan-of R ed octets p plan zero = record { octets = octets; taken = sym (plan-number R ed octets p plan) ∙ zero; plan = plan }
 
 pub of-fields : (R : List ℕ) (ed : ℕ) (p : Plan) → PlanOf R ed p → PlanFields R ed p
 of-fields R ed p s = plan-fields R ed (s .octets) p (s .plan) (s .taken)

@@ -19,6 +19,7 @@ use Rattle.profile.proofs.Accepted.{Accepted, accepted}
 use Rattle.cutting.specs.Plan.{blockBits, kmax, otherEdition, sumBits, blocks, tooManyBlocks, ownBits, sizeIndexFor, sizeIndex, places}
 use Rattle.cutting.specs.Promises.{planNumber, cutting, refusal, planned}
 use Rattle.cutting.specs.declared.Plan.{Plan}
+use Rattle.cutting.specs.steps.Plans.{planFor}
 use Rattle.cutting.proofs.Answers.{plan-unjudged, plan-judged, cutting-planned}
 use Rattle.cutting.proofs.Rounding.{own-sum, own-most, own-some}
 use Rattle.cutting.proofs.Summed.{few-blocks, sum-fits}
@@ -57,6 +58,11 @@ module _ (R : List ℕ) (known : Accepted R) where
     pub need-most : ceil b (blocks R ed b) + sumBits R ed b ≤ kmax R
     need-most =
         omega (arith, ceil-least b (blocks R ed b) blocks-some left (omega (arith, blocks-cover, mul-comm left (blocks R ed b))))
+
+-- the plan by the numbers that were found
+pub plan-for : (R : List ℕ) (ed b most sums count : ℕ) → most ≡ kmax R → sums ≡ sumBits R ed b → count ≡ blocks R ed b → planFor R b most sums count ≡ cutting R ed b
+unfolding planFor cutting places sizeIndex
+plan-for R ed b most sums count p q r = rw (p, q, r)
 
 -- B bits, cut in this edition by a record that is accepted into no more than 64 blocks
 pub record Cut (R : List ℕ) (ed b : ℕ) : Type 0 where

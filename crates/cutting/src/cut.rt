@@ -2,13 +2,15 @@
 use crate::Plan;
 use bits::number::DONE;
 ghost use mathlib.Core.Path.{_≡_};
+ghost use mathlib.Core.Bool.{cond, _&&_};
 ghost use Prim.Native.Nat.{_-_, _≤_, _<_};
+ghost use lib.Dec.{eqb, ltb};
 ghost use Rattle.bits.specs.Counts.{ceil};
 ghost use Rattle.profile.specs.Record.{t};
 ghost use Rattle.profile.specs.Promises.{judged};
-ghost use Rattle.cutting.specs.Plan.{kmax, otherEdition, sumBits, sizeIndexFor};
-ghost use Rattle.cutting.specs.Promises.{cutting, refusal};
-ghost use Rattle.cutting.specs.steps.Plans.{Counted};
+ghost use Rattle.cutting.specs.Plan.{kmax, otherEdition, sizeIndexFor};
+ghost use Rattle.cutting.specs.Promises.{refusal};
+ghost use Rattle.cutting.specs.steps.Plans.{Counted, planFor};
 
 // a / b, rounded up.
 pub fn ceil(a: usize, b: usize) -> usize
@@ -38,9 +40,8 @@ pub fn is_other_edition(edition: usize) -> bool
 }
 
 // L, the bits of a block's checksum, where `most` is Kmax: edition 2 has them where one block is not enough.
-pub fn sums(profile: &[u8], edition: usize, bits: usize, most: usize) -> usize
-    requires { ⌜ most ≡ kmax (now profile) ⌝ }
-    ensures { λ r. ⌜ r ≡ sumBits (now (profile .entry)) edition bits ⌝ }
+pub fn sums(edition: usize, bits: usize, most: usize) -> usize
+    ensures { λ r. ⌜ r ≡ cond (eqb edition 2 && ltb most bits) 24 0 ⌝ }
 {
     if edition != 2 {
         return 0;
@@ -93,16 +94,9 @@ pub fn refused(number: u32) -> Plan
 }
 
 // The plan of B bits in C blocks, which are `count`; `most` is Kmax and `sums` is L.
-pub fn cutting(
-    profile: &[u8],
-    edition: usize,
-    bits: usize,
-    most: usize,
-    sums: usize,
-    count: usize,
-) -> Plan
-    requires { ⌜ Counted (now profile) edition bits most sums count ⌝ }
-    ensures { λ r. ⌜ r ≡ cutting (now (profile .entry)) edition bits ⌝ }
+pub fn cutting(profile: &[u8], bits: usize, most: usize, sums: usize, count: usize) -> Plan
+    requires { ⌜ Counted (now profile) bits most sums count ⌝ }
+    ensures { λ r. ⌜ r ≡ planFor (now (profile .entry)) bits most sums count ⌝ }
 {
     let need = ceil(bits, count) + sums;
     let index = index_for(profile, need);

@@ -45,7 +45,7 @@ pub fn plan_accepted(profile: &[u8], edition: usize, octets: usize) -> Plan
     }
     let bits = 8 * octets + 24;
     let kmax = cut::kmax(profile);
-    let sums = cut::sums(profile, edition, bits, kmax);
+    let sums = cut::sums(edition, bits, kmax);
     if kmax <= sums {
         return cut::refused(TOO_MANY_BLOCKS);
     }
@@ -53,7 +53,7 @@ pub fn plan_accepted(profile: &[u8], edition: usize, octets: usize) -> Plan
     if 64 < blocks {
         return cut::refused(TOO_MANY_BLOCKS);
     }
-    cut::cutting(profile, edition, bits, kmax, sums, blocks)
+    cut::cutting(profile, bits, kmax, sums, blocks)
 }
 
 // Lays the transport bits of a block, its bits and their checksum, in front of `bits`. "The data path passes zero" for the mask.

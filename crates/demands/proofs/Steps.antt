@@ -2,7 +2,7 @@
 use mathlib.Core.Path.{_≡_, refl, sym, ap, ap₂, _∙_, subst}
 use mathlib.Core.Bool.{cond}
 use mathlib.Core.List.{List}
-use Prim.Native.Nat.{ℕ, suc, _+_, _-_, _*_, _/_, _≤_, _<_}
+use Prim.Native.Nat.{ℕ, _-_, _*_, _/_, _<_}
 use native.Mathlib.Nat.{add-mul}
 use native.Mathlib.Omega.{arith}
 use lib.Dec.{eqb}
@@ -12,9 +12,8 @@ use Rattle.bits.specs.Counts.{symbolPlacesOf, codedBitsOf}
 use Rattle.bits.specs.Ranges.{sumBelow}
 use Rattle.bits.specs.Bits.{withFiller}
 use Rattle.bits.specs.declared.count.Terms.{Terms}
-use Rattle.bits.proofs.Lists.{length-part}
 use Rattle.bits.proofs.Ranges.{equal-or, below-or}
-use Rattle.bits.proofs.Sums.{sum-same, sum-mono}
+use Rattle.bits.proofs.Sums.{sum-same}
 use Rattle.checksum.specs.Crc.{attached}
 use Rattle.profile.specs.Record.{kb, m, kind, rows, columns, z, table}
 use Rattle.profile.proofs.Shape.{columns-is}
@@ -22,7 +21,8 @@ use Rattle.cutting.specs.Plan.{blockBits, kmax, sumBits, blocks, ownBits, sizeI
 use Rattle.cutting.specs.Promises.{planNumber}
 use Rattle.cutting.specs.Transport.{transport}
 use Rattle.cutting.specs.Cutting.{ownStart, own, carried, systematic}
-use Rattle.cutting.proofs.Summed.{sum-none, sum-single, sum-there, is-sum, without-sum, with-its-sum, length-with-sum}
+use Rattle.cutting.proofs.Summed.{sum-none, sum-single, sum-there, without-sum, with-its-sum}
+use Rattle.cutting.proofs.Carried.{carried-fits, own-size, carried-size}
 use Rattle.cutting.proofs.Plans.{Cut, plan-passed, plan-cut}
 use Rattle.cutting.proofs.Transported.{length-transport, transport-bits}
 use Rattle.parity.specs.Matrix.{checks}
@@ -69,11 +69,9 @@ module _ (R : List ℕ) (ed : ℕ) (block : List ℕ) (taken : planNumber R ed (
   unfolding own mine
   own-is r = refl
 
-  own-size : (r : ℕ) → r < c → length (own R ed b u r) ≡ mine r
-  unfolding ownStart sumBelow mine
-  own-size r l =
-      let within : suc r ≤ c = omega arith in
-      ap length (own-is r) ∙ length-part (mine r) (ownStart R ed b r) u (omega (arith, size, cut .own-sum, sum-mono mine (suc r) c within))
+  own-sized : (r : ℕ) → r < c → length (own R ed b u r) ≡ mine r
+  unfolding mine
+  own-sized = own-size R ed b u cut size
 
   own-together : joined c (own R ed b u) ≡ u
   unfolding ownStart mine
@@ -103,14 +101,6 @@ module _ (R : List ℕ) (ed : ℕ) (block : List ℕ) (taken : planNumber R ed (
       equal-or ed 2 (λ e. below-or (kmax R) b (λ l. h .followed e l ∙ sym (mine .followed e l)) (λ l. h .single l ∙ sym (mine .single l)))
       (λ n. h .alone n ∙ sym (mine .alone n))
 
-  load-size : (r : ℕ) → r < c → length (load r) ≡ mine r + sumBits R ed b
-  unfolding carried
-  load-size r l = length-with-sum (sumBits R ed b) (own R ed b u r) (is-sum R ed b) ∙ ap (λ (n : ℕ). n + sumBits R ed b) (own-size r l)
-
-  load-fits : (r : ℕ) → mine r + sumBits R ed b ≤ places R ed b
-  unfolding mine
-  load-fits r = omega (arith, cut .own-most r, cut .room)
-
   -- ---- the coded block
 
   abbrev sys : ℕ → List ℕ
@@ -121,7 +111,7 @@ module _ (R : List ℕ) (ed : ℕ) (block : List ℕ) (taken : planNumber R ed (
   sys-size r l =
       let o = length (load r) in
       length-append (load r) (replicate (places R ed b - o) 2)
-      ∙ omega (arith, load-size r l, length-replicate {A = ℕ} (places R ed b - o) 2, cut .product, load-fits r)
+      ∙ omega (arith, carried-size R ed b u cut size r l, length-replicate {A = ℕ} (places R ed b - o) 2, cut .product, carried-fits R ed b cut r)
 
   abbrev word : ℕ → List ℕ
   word r = codedBlock R ed b u r
@@ -216,7 +206,7 @@ module _ (R block : List ℕ) (terms : Terms) (taken : planNumber R (terms .edit
         transport = transport block;
         appended = refl;
         transported = size R ed block taken;
-        cut = own-size R ed block taken;
+        cut = own-sized R ed block taken;
         together = own-together R ed block taken;
         load = load R ed block taken;
         carried = λ r l. load-carries R ed block taken r;

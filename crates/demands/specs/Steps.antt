@@ -1,6 +1,6 @@
 -- What the second demand says of sending: the six steps of document 01, "From block to radio bits", as facts of the bits that a transport block is
--- sent as, "for each rv" (document 02, CR 3) and in either edition (CR 8). R is the profile's record, ed the edition. No parity bits are searched for here, and no stretch is joined; the checksum,
--- cutting, the matrix and rate matching are the definitions that sending itself is made of.
+-- sent as, "for each rv" (document 02, CR 3) and in either edition (CR 8). R is the profile's record, ed the edition. No parity bits are searched for here, and
+-- no stretch is joined; the checksums, cutting, the matrix and rate matching are the definitions that sending itself is made of.
 use mathlib.Core.Path.{_≡_}
 use mathlib.Core.Bool.{true, cond}
 use mathlib.Core.List.{List, _++_}

@@ -2,29 +2,35 @@
 use mathlib.Core.Path.{_≡_}
 use mathlib.Core.Bool.{Bool, true, cond}
 use mathlib.Core.List.{List}
-use Prim.Native.Nat.{ℕ, _≤_, _<_}
+use Prim.Native.Nat.{ℕ, _+_, _*_, _≤_, _<_}
 use lib.Dec.{eqb}
 use lib.ListN.{length, getD}
 use Rattle.bits.specs.Bits.{AreBits, withFiller}
+use Rattle.bits.specs.Counts.{ceil}
 use Rattle.checksum.specs.Crc.{gen24A}
 use Rattle.checksum.specs.steps.Testing.{checks}
 use Rattle.blocksum.specs.Blocksum.{gen24B}
+use Rattle.profile.specs.Record.{kb, z}
 use Rattle.profile.specs.Promises.{judged}
-use Rattle.cutting.specs.Plan.{kmax, sumBits, blocks}
+use Rattle.cutting.specs.Plan.{kmax, sizeIndexFor}
 use Rattle.cutting.specs.Promises.{planNumber, planned}
 use Rattle.cutting.specs.declared.Plan.{Plan}
 
--- R is accepted and cuts B bits, no more than those of the longest block, into C blocks, which are `count`; `most` is Kmax and `sums` is L
-pub record Counted (R : List ℕ) (ed bits most sums count : ℕ) : Type 0 where
+-- R is accepted, and B bits, no more than those of the longest block, have room in `count` blocks; `most` is Kmax and `sums` is L
+pub record Counted (R : List ℕ) (bits most sums count : ℕ) : Type 0 where
   pub accepted : judged R ≡ 0
-  pub bits-low : 0 < bits
   pub bits-high : bits ≤ 16408
   pub most-is : most ≡ kmax R
   pub most-few : most ≤ 1620
-  pub sums-is : sums ≡ sumBits R ed bits
-  pub sums-fit : sums < most
-  pub count-is : count ≡ blocks R ed bits
+  pub count-low : 0 < count
   pub count-high : count ≤ 64
+  pub fits : ceil bits count + sums ≤ most
+
+-- the plan by these numbers
+unfoldable pub planFor : List ℕ → ℕ → ℕ → ℕ → ℕ → Plan
+planFor R bits most sums count =
+    let i = sizeIndexFor R (ceil bits count + sums) in
+    record { number = 0; bits = bits; kmax = most; blocks = count; places = kb R * z R i; z = z R i; index = i; sums = sums }
 
 -- in this edition R takes blocks of some length, and p is their plan
 pub record PlanOf (R : List ℕ) (ed : ℕ) (p : Plan) : Type 0 where

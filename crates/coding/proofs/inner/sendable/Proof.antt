@@ -39,7 +39,7 @@ add-carried : tie.Need-add-carried
 add-carried c = omega (arith, room (c .before), places (c .before), c .before .size .ensures .1)
 
 sub-n : tie.Need-sub-n
-sub-n c = room (c .before .before)
+sub-n c = omega (arith, room (c .before .before))
 
 sub-n-2 : tie.Need-sub-n-2
 sub-n-2 c = omega (arith, places (c .before .before))

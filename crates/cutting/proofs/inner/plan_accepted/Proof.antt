@@ -1,15 +1,18 @@
 -- `cutting::inner::plan_accepted` meets its contract.
-use mathlib.Core.Path.{_≡_, sym, _∙_}
+use mathlib.Core.Path.{_≡_, sym, ap, _∙_}
 use mathlib.Core.Bool.{true, false}
 use Prim.Native.Nat.{_≤_, _<_}
 use native.Mathlib.Omega.{arith}
 use denote.Ref.{now}
 use borrow.Author.Needs.{needs}
 use borrow.Author.Tests.{not-true, not-false}
+use Rattle.bits.specs.Counts.{ceil}
 use Rattle.bits.specs.Ranges.{within}
 use Rattle.bits.proofs.Ranges.{within-is}
-use Rattle.cutting.specs.Plan.{blockBits, kmax, sumBits, otherEdition, blocks}
+use Rattle.profile.proofs.Accepted.{accepted}
+use Rattle.cutting.specs.Plan.{blockBits, kmax, otherEdition, summed, sumBits, blocks}
 use Rattle.cutting.proofs.Answers.{plan-nineteen, plan-seven, plan-nine, plan-zero, refused-planned, cutting-planned}
+use Rattle.cutting.proofs.Plans.{blocks-some, need-most, plan-for}
 use Rattle.cutting.proofs.Summed.{too-many-full, too-many-over, few-enough}
 use Rattle.cutting.proofs.inner.plan_accepted.Statement.{statement}
 use Rattle.cutting.proofs.inner.plan_accepted.Tie as tie
@@ -28,8 +31,8 @@ octets-few c = within-is 1 2048 (c .before .before .before .before .before .args
 -- after the count of a checksum's bits
 sum-is : (c : tie.After-sums)
     → c .sums .result ≡ sumBits (now (c .before .before .before .before .before .before .before .args .profile)) (c .before .before .before .before .before .before .before .args .edition) (blockBits (c .before .before .before .before .before .before .before .args .octets))
-unfolding blockBits
-sum-is c = c .sums .ensures
+unfolding sumBits summed blockBits
+sum-is c = cc (c .before .kmax .ensures .0)
 
 -- after the count of blocks
 counted : (c : tie.After-count)
@@ -113,23 +116,35 @@ returns-4 c =
     let many = too-many-over R ed (blockBits octets) (omega (arith, counted n, c .before .if4 .taken)) in
     rw (c .refused4 .ensures) (refused-planned R ed octets 9 (plan-nine R ed octets (s .pre) (known u) (right v) many) (λ q. omega arith))
 
+-- a block has room for more than its checksum
+fits : (c : tie.After-count)
+    → sumBits (now (c .before .before .before .before .before .before .before .before .before .args .profile)) (c .before .before .before .before .before .before .before .before .before .args .edition) (blockBits (c .before .before .before .before .before .before .before .before .before .args .octets))
+    < kmax (now (c .before .before .before .before .before .before .before .before .before .args .profile))
+fits c = let sums = c .before .before in omega (arith, sums .before .kmax .ensures .0, sum-is sums, c .before .if3 .left)
+
 cutting-requires : tie.Need-cutting-requires
 unfolding blockBits
 cutting-requires c κs =
     let n = c .before in
     let sums = n .before .before in
     let v = sums .before .before in
+    let s = v .before .before .before .before .before in
+    let R = now (s .args .profile) in
+    let ed = s .args .edition in
+    let b = blockBits (s .args .octets) in
     let few = octets-few v in
+    let most = sums .before .kmax .ensures in
+    let shape = accepted R (s .pre) in
+    let some : 0 < blocks R ed b = blocks-some R shape ed b (omega arith) (fits n) in
+    let each : ceil b (n .count .result) ≡ ceil b (blocks R ed b) = ap (ceil b) (counted n) in
     record {
-      accepted = v .before .before .before .before .before .pre;
-      bits-low = search needs;
+      accepted = s .pre;
       bits-high = search needs;
-      most-is = search needs;
-      most-few = search needs;
-      sums-is = sum-is sums;
-      sums-fit = search needs;
-      count-is = counted n;
+      most-is = most .0;
+      most-few = most .2;
+      count-low = omega (arith, counted n);
       count-high = search needs;
+      fits = omega (arith, need-most R shape ed b (omega arith) (fits n), each, sum-is sums, most .0);
     }
 
 returns-5 : tie.Need-returns-5
@@ -143,9 +158,9 @@ returns-5 c =
     let R = now (s .args .profile) in
     let ed = s .args .edition in
     let octets = s .args .octets in
-    let fits : sumBits R ed (blockBits octets) < kmax R = omega (arith, sums .before .kmax .ensures .0, sum-is sums, n .before .if3 .left) in
     let few : blocks R ed (blockBits octets) ≤ 64 = omega (arith, counted n, c .before .if4 .left) in
-    rw (c .cutting .ensures) (cutting-planned R ed octets (plan-zero R ed octets (s .pre) (known u) (right v) (few-enough R ed (blockBits octets) fits few)))
+    let zero = plan-zero R ed octets (s .pre) (known u) (right v) (few-enough R ed (blockBits octets) (fits n) few) in
+    c .cutting .ensures ∙ plan-for R ed (blockBits octets) _ _ _ (sums .before .kmax .ensures .0) (sum-is sums) (counted n) ∙ cutting-planned R ed octets zero
 
 pub plan-accepted-spec : {M : Type 1} → statement M
 plan-accepted-spec =

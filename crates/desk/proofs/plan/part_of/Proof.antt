@@ -6,20 +6,14 @@ use denote.Ref.{now}
 use Rattle.cutting.specs.Plan.{ownBits, carriedBits, filler}
 use Rattle.cutting.specs.steps.Plans.{PlanOf}
 use Rattle.cutting.proofs.Plans.{plan-number, plan-places, plan-sums}
-use Rattle.cutting.proofs.PlanFields.{PlanFields, of-fields, bits-is, blocks-are}
+use Rattle.cutting.proofs.PlanFields.{PlanFields, plan-of, of-fields, bits-is, blocks-are}
 use Rattle.coding.specs.Blocks.{sendable}
 use Rattle.coding.proofs.Sent.{carried-room}
 use Rattle.desk.proofs.plan.part_of.Statement.{statement}
 use Rattle.desk.proofs.plan.part_of.Tie as tie
 
 of : (c : tie.Start) → PlanOf (now (c .args .profile)) (c .args .asked .terms .edition) (c .args .plan)
-of c =
-    let asked = c .args .asked in
-    record {
-      octets = asked .octets;
-      taken = sym (plan-number (now (c .args .profile)) (asked .terms .edition) (asked .octets) (c .args .plan) (c .pre .1)) ∙ c .pre .0;
-      plan = c .pre .1;
-    }
+of c = let asked = c .args .asked in plan-of (now (c .args .profile)) (asked .terms .edition) (asked .octets) (c .args .plan) (c .pre .1) (c .pre .0)
 
 fields : (c : tie.Start) → PlanFields (now (c .args .profile)) (c .args .asked .terms .edition) (c .args .plan)
 fields c = of-fields (now (c .args .profile)) (c .args .asked .terms .edition) (c .args .plan) (of c)
@@ -46,7 +40,7 @@ sendable-requires c κs =
     record { edition = st .args .asked .terms .edition; of = of st }
 
 returns : tie.Need-returns
-unfolding filler carriedBits of
+unfolding filler carriedBits
 returns c =
     let st = c .before .before .before .before .before in
     let R = now (st .args .profile) in
@@ -54,7 +48,7 @@ returns c =
     let n = st .args .asked .octets in
     let p = st .args .plan in
     let plan = st .pre .1 in
-    let done = of st .taken in
+    let done = sym (plan-number R ed n p plan) ∙ st .pre .0 in
     let bits = bits-is R ed n p plan done in
     let own = c .before .before .before .own-bits .ensures ∙ ap₂ (λ (b k : ℕ). ownBits b k (st .args .r)) bits (blocks-are R ed n p plan done) in
     let sums = plan-sums R ed n p plan done in

@@ -1,19 +1,18 @@
 -- `desk::plan::starts` meets its contract.
-use mathlib.Core.Path.{sym, _∙_}
 use denote.Ref.{now}
 use borrow.Author.Needs.{needs}
 use Rattle.cutting.specs.steps.Plans.{SomePlan}
-use Rattle.cutting.proofs.Plans.{plan-number}
-use Rattle.cutting.proofs.PlanFields.{some-fields}
+use Rattle.cutting.proofs.PlanFields.{plan-of, some-fields}
 use Rattle.desk.proofs.plan.starts.Statement.{statement}
 use Rattle.desk.proofs.plan.starts.Tie as tie
 
 some : (c : tie.Start) → SomePlan (now (c .args .profile)) (c .args .plan)
 some c =
     let asked = c .args .asked in
-    let R = now (c .args .profile) in
-    let taken = sym (plan-number R (asked .terms .edition) (asked .octets) (c .args .plan) (c .pre .1)) ∙ c .pre .0 in
-    record { edition = asked .terms .edition; of = record { octets = asked .octets; taken = taken; plan = c .pre .1 } }
+    record {
+      edition = asked .terms .edition;
+      of = plan-of (now (c .args .profile)) (asked .terms .edition) (asked .octets) (c .args .plan) (c .pre .1) (c .pre .0);
+    }
 
 kind-requires : tie.Need-kind-requires
 kind-requires c κs =
