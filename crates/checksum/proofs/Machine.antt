@@ -2,13 +2,14 @@
 use mathlib.Core.Path.{_≡_, sym, ap, ap₂, _∙_, subst}
 use mathlib.Core.List.{List}
 use Prim.Native.Nat.{ℕ, _+_, _-_, _*_, _/_, _%_, _^_, _≤_, _<_}
-use native.Mathlib.Nat.{zero-mul, one-mul, add-zero, mod-eq-of-lt, mul-mod-left, mul-div-cancel}
+use native.Mathlib.Nat.{mod-lt, zero-mul, one-mul, add-zero, mod-eq-of-lt, mul-mod-left, mul-div-cancel}
 use native.Mathlib.Omega.{arith}
-use lib.Bits.{bitXor, bitAnd, and-mask, xor-lt, xor-zero-r}
+use lib.Bits.{bitXor, bitAnd, and-mask, xor-lt, xor-zero-r, xor-comm, xor-shr}
 use lib.Dec.{lit<}
 use lib.ListN.{getD}
-use lib.Pow.{pow-pos, mod-pow-add, shl-exact, shl-lt, shr-lt}
+use lib.Pow.{pow-pos, mod-pow-add, field, shl-exact, shl-lt, shr-lt, shr-shr}
 use Rattle.bits.specs.Bits.{digits}
+use Rattle.bits.proofs.Xor.{xor-assoc}
 use Rattle.checksum.specs.Crc.{reduce}
 use Rattle.checksum.specs.steps.Register.{stepped, fed}
 use Rattle.checksum.specs.steps.Table.{Left, generatorOf}
@@ -25,6 +26,10 @@ module _ (n w : ℕ) (h : w < n) where
 
   pub low-bits : (x : ℕ) → bitAnd x ((1 * 2 ^ w) % 2 ^ n - 1) ≡ x % 2 ^ w
   low-bits x = ap (λ (k : ℕ). bitAnd x (k - 1)) one-shifted ∙ and-mask x w
+
+  -- so cut, it has no more than w bits
+  pub low-lt : (x y : ℕ) → y ≡ x % 2 ^ w → y < 2 ^ w
+  low-lt x y e = subst (λ (k : ℕ). k < 2 ^ w) (sym e) (mod-lt x (pow-pos w))
 
 -- ---- one bit
 
@@ -56,15 +61,39 @@ module _ (w g reg bit : ℕ) (hw : w ≤ 24) (hr : reg < 2 ^ w) (hb : bit < 2) (
       let h : raw w reg bit / 2 ^ w < 2 = shr-lt 1 w raw-lt in
       ap (bitXor low) (sym (one-mul g)) ∙ with-top 1 (omega arith)
 
--- ---- one look at a table: i is the place, `up` the register moved up without its top octet
+-- ---- eight bits more: the register moved up, without its top octet
 
-pub one-look : (w reg x : ℕ) (left : List ℕ) → Left w left → reg < 2 ^ w → (i up : ℕ) → i ≡ bitXor (reg / 2 ^ (w - 8)) x → i < 256
-    → up ≡ (reg * 2 ^ 8) % 2 ^ 32 % 2 ^ w → bitXor up (getD left i 0) ≡ fed w (generatorOf left) reg (digits 8 x)
-one-look w reg x left h hr i up place inside moved =
+-- at 32 bits nothing goes over the top
+pub moved-up : (w reg : ℕ) → reg < 2 ^ w → w ≤ 24 → (reg * 2 ^ 8) % 2 ^ 32 % 2 ^ w ≡ (reg * 2 ^ 8) % 2 ^ w
+moved-up w reg hr most = ap (λ (y : ℕ). y % 2 ^ w) (shl-exact w 8 32 hr (omega arith))
+
+-- its top octet then, where it stood before
+pub second-octet : (w reg : ℕ) → 16 ≤ w → bitAnd (reg / 2 ^ (w - 16)) 255 ≡ (reg * 2 ^ 8) % 2 ^ w / 2 ^ (w - 8)
+second-octet w reg h =
+    let below : 8 + (w - 8) ≡ w = omega arith in
+    let apart : 8 + (w - 16) ≡ w - 8 = omega arith in
+    let n = reg * 2 ^ 8 in
+    and-mask (reg / 2 ^ (w - 16)) 8
+    ∙ ap (λ (y : ℕ). y / 2 ^ (w - 16) % 2 ^ 8) (sym (mul-div-cancel reg (pow-pos 8)))
+    ∙ ap (λ (y : ℕ). y % 2 ^ 8) (shr-shr n 8 (w - 16) ∙ ap (λ (k : ℕ). n / 2 ^ k) apart)
+    ∙ sym (field n 8 (w - 8))
+    ∙ ap (λ (k : ℕ). n % 2 ^ k / 2 ^ (w - 8)) below
+
+-- the place of the next octet from the parts of the register that is looked for
+pub place-apart : (m up t top next x : ℕ) → top ≡ t / 2 ^ m → next ≡ up / 2 ^ m → bitXor top (bitXor next x) ≡ bitXor (bitXor up t / 2 ^ m) x
+place-apart m up t top next x p q =
+    ap₂ (λ (y z : ℕ). bitXor y (bitXor z x)) p q
+    ∙ sym (xor-assoc (t / 2 ^ m) (up / 2 ^ m) x)
+    ∙ ap (λ (y : ℕ). bitXor y x) (xor-comm (t / 2 ^ m) (up / 2 ^ m) ∙ sym (xor-shr up t m))
+
+-- one look at a table: i is the place
+pub one-look : (w reg x : ℕ) (left : List ℕ) → Left w left → reg < 2 ^ w → (i : ℕ) → i ≡ bitXor (reg / 2 ^ (w - 8)) x → i < 256
+    → bitXor ((reg * 2 ^ 8) % 2 ^ w) (getD left i 0) ≡ fed w (generatorOf left) reg (digits 8 x)
+one-look w reg x left h hr i place inside =
     let m = w - 8 in
     let below : m + 8 ≡ w = omega (arith, h .wide) in
-    let rest : up ≡ reg % 2 ^ m * 2 ^ 8 =
-    moved ∙ ap (λ (y : ℕ). y % 2 ^ w) (shl-exact w 8 32 hr (omega (arith, h .fits .most))) ∙ ap (λ (n : ℕ). (reg * 2 ^ 8) % 2 ^ n) (sym below)
+    let rest : (reg * 2 ^ 8) % 2 ^ w ≡ reg % 2 ^ m * 2 ^ 8 =
+    ap (λ (n : ℕ). (reg * 2 ^ 8) % 2 ^ n) (sym below)
     ∙ mod-pow-add (reg * 2 ^ 8) m 8
     ∙ ap₂ (λ (y z : ℕ). y % 2 ^ m * 2 ^ 8 + z) (mul-div-cancel reg (pow-pos 8)) (mul-mod-left reg (2 ^ 8))
     ∙ add-zero (reg % 2 ^ m * 2 ^ 8) in

@@ -1,32 +1,47 @@
 // Checksums of packed octets, an octet at a time: a table has what each octet leaves of an empty register, and one way serves every width.
 use crate::register;
 ghost use mathlib.Core.Path.{_≡_};
-ghost use Prim.Native.Nat.{_^_, _<_};
-ghost use Rattle.bits.specs.Bits.{digits, unpacked};
+ghost use Prim.Native.Nat.{_-_, _*_, _/_, _%_, _^_, _<_};
+ghost use lib.Bits.{bitXor};
+ghost use lib.ListN.{getD};
+ghost use Rattle.bits.specs.Bits.{unpacked};
 ghost use Rattle.checksum.specs.Crc.{checksum, gen24A, gen16, gen8};
-ghost use Rattle.checksum.specs.steps.Register.{fed};
 ghost use Rattle.checksum.specs.steps.Table.{Left, generatorOf};
 
-// The eight bits of an octet into the register of w bits.
-fn octet_by(reg: u32, x: u8, w: u32, left: &[u32]) -> u32
-    requires { ⌜ Left w (now left) × (reg < 2 ^ w) ⌝ }
-    ensures { λ r. ⌜ r ≡ fed w (generatorOf (now (left .entry))) reg (digits 8 x) ⌝ }
+// The register of w bits after an octet whose place in the table is `at`: its top octet goes, and what that and the octet leave comes in.
+fn moved(reg: u32, at: u32, w: u32, left: &[u32]) -> u32
+    requires { ⌜ Left w (now left) × (reg < 2 ^ w) × (at < 256) ⌝ }
+    ensures { λ r. ⌜ r ≡ bitXor ((reg * 2 ^ 8) % 2 ^ w) (getD (now (left .entry)) at 0) ⌝ }
 {
-    let i = (register::top_octet(reg, w) ^ (x as u32)) as usize;
-    register::cut(reg << 8, w) ^ left[i]
+    register::cut(reg << 8, w) ^ left[at as usize]
+}
+
+// The place of the octet x behind it. It needs the table's entry and not the register that comes of it, so that one look follows the other sooner.
+fn next_place(reg: u32, at: u32, x: u8, w: u32, left: &[u32]) -> u32
+    requires { ⌜ Left w (now left) × (reg < 2 ^ w) × (at < 256) ⌝ }
+    ensures { λ r. ⌜ (r ≡ bitXor (bitXor ((reg * 2 ^ 8) % 2 ^ w) (getD (now (left .entry)) at 0) / 2 ^ (w - 8)) x) × (r < 256) ⌝ }
+{
+    let rest = register::next_octet(reg, w) ^ (x as u32);
+    register::top_octet(left[at as usize], w) ^ rest
 }
 
 fn sum_by(octets: &[u8], w: u32, left: &[u32]) -> u32
     requires { ⌜ Left w (now left) ⌝ }
     ensures { λ r. ⌜ r ≡ checksum w (generatorOf (now (left .entry))) (unpacked (now (octets .entry))) ⌝ }
 {
-    let mut r: u32 = 0;
-    let mut i = 0;
-    while i < octets.len() {
-        r = octet_by(r, octets[i], w, left);
-        i += 1;
+    if octets.len() == 0 {
+        return 0;
     }
-    r
+    let mut reg: u32 = 0;
+    let mut at = octets[0] as u32;
+    let mut i = 0;
+    while i + 1 < octets.len() {
+        i += 1;
+        let place = next_place(reg, at, octets[i], w, left);
+        reg = moved(reg, at, w, left);
+        at = place;
+    }
+    moved(reg, at, w, left)
 }
 
 // Of 24 bits, with gCRC24A. A const is built anew wherever it is named, so each table is named once for all octets.

@@ -169,14 +169,14 @@ module _ (R : List ℕ) (terms : Terms) (bits : List ℕ) (p : Plan) (h : Receiv
       pub block-other : b ≡ false → radioBits R (p .bits) t terms (length bits) ≡ bits → ⊥
       block-other y whole = true≢false (sym (both-sent whole) ∙ sym tested ∙ y)
 
-      pub walk-more : (old word room room' : List ℕ) (begin : ℕ) → b ≡ true → 16408 ≤ length old → take n word ≡ take n load → n ≤ length word
+      pub walk-more : (old word room room' : List ℕ) (begin : ℕ) → b ≡ true → p .bits ≤ length old → take n word ≡ take n load → n ≤ length word
           → Walk R terms bits (p .bits) old r begin from room
           → Laid word 0 n room begin room' → Walk R terms bits (p .bits) old (r + 1) (begin + n) (from + e) room'
       unfolding joined
       walk-more old word room room' begin y big front has w laid =
           let k = fields in
           let fits = own-fits R p k r begin n l (w .starts) q in
-          let fit : begin + n ≤ length room = omega (arith, fits, k .cut .bits-high, w .same) in
+          let fit : begin + n ≤ length room = omega (arith, fits, w .same) in
           record {
             starts = ap₂ (λ (x y : ℕ). x + y) (w .starts) (own-is R p k r n q) ∙ sym (start-turn R ed (p .bits) r);
             stands = share-turn R p terms k (length bits) r from e a d;

@@ -12,9 +12,13 @@ use checking::Checker;
 ghost use mathlib.Core.Path.{_≡_};
 ghost use Prim.Native.Nat.{_≤_};
 ghost use lib.ListN.{length};
+ghost use Rattle.cutting.specs.Plan.{blockBits};
 ghost use Rattle.coding.specs.Promises.{Sent, Received};
 ghost use Rattle.coding.specs.steps.Numbers.{requestNumber};
 ghost use Rattle.coding.specs.steps.Receiving.{Receivable, Decided};
+
+// So many octets are a short block.
+const FEW: usize = 256;
 
 // Sends a block that no number refuses; `bits` is room for its transport bits.
 fn send_through(
@@ -25,7 +29,7 @@ fn send_through(
     bits: &mut [u8],
     out: &mut [u8],
 ) -> Written
-    requires { ⌜ (requestNumber (now profile) (length (now block)) terms (g .0) (g .0) (length (now out)) ≡ 0) × (16408 ≤ length (now bits)) ⌝ }
+    requires { ⌜ (requestNumber (now profile) (length (now block)) terms (g .0) (g .0) (length (now out)) ≡ 0) × (blockBits (length (now block)) ≤ length (now bits)) ⌝ }
     ensures { λ r. ⌜ Sent (now (profile .entry)) (now (block .entry)) terms (g .0) (now (out .entry)) r (now (out .exit)) ⌝ }
 {
     let plan = cutting::inner::plan_accepted(profile, terms.edition, block.len());
@@ -38,7 +42,7 @@ fn send_through(
     }
 }
 
-// The longest block has 16,408 transport bits.
+// The longest block has 16,408 transport bits. Most are shorter: these are given less room, so that no more is cleared for them than they take.
 fn send_accepted(
     profile: &[u8],
     block: &[u8],
@@ -49,8 +53,12 @@ fn send_accepted(
     requires { ⌜ requestNumber (now profile) (length (now block)) terms (g .0) (g .0) (length (now out)) ≡ 0 ⌝ }
     ensures { λ r. ⌜ Sent (now (profile .entry)) (now (block .entry)) terms (g .0) (now (out .entry)) r (now (out .exit)) ⌝ }
 {
-    let mut bits = [0u8; 16408];
-    send_through(profile, block, terms, g, &mut bits, out)
+    if block.len() <= FEW {
+        let mut few = [0u8; 2072];
+        return send_through(profile, block, terms, g, &mut few, out);
+    }
+    let mut many = [0u8; 16408];
+    send_through(profile, block, terms, g, &mut many, out)
 }
 
 // Sends a transport block of packed octets as g bits: its number, and the count written.
@@ -76,7 +84,7 @@ fn receive_through(
     block: &mut [u8],
     out: &mut [u8],
 ) -> Written
-    requires { ⌜ Receivable (now profile) octets terms (now bits) × (16408 ≤ length (now room)) × (2048 ≤ length (now block)) × (octets ≤ length (now out)) ⌝ }
+    requires { ⌜ Receivable (now profile) octets terms (now bits) × (blockBits octets ≤ length (now room)) × (octets ≤ length (now block)) × (octets ≤ length (now out)) ⌝ }
     ensures { λ r. ⌜ Decided (now (profile .entry)) octets terms (now (bits .entry)) (now (out .entry)) r (now (out .exit)) ⌝ }
 {
     let plan = cutting::inner::plan_accepted(profile, terms.edition, octets);
@@ -100,7 +108,7 @@ fn receive_through(
     }
 }
 
-// The longest block has 2,048 octets and 16,408 transport bits.
+// The longest block has 2,048 octets and 16,408 transport bits; a short one is given less room here too.
 fn receive_accepted(
     profile: &[u8],
     octets: usize,
@@ -112,16 +120,30 @@ fn receive_accepted(
     requires { ⌜ Receivable (now profile) octets terms (now bits) × (octets ≤ length (now out)) ⌝ }
     ensures { λ r. ⌜ Decided (now (profile .entry)) octets terms (now (bits .entry)) (now (out .entry)) r (now (out .exit)) ⌝ }
 {
-    let mut room = [0u8; 16408];
-    let mut block = [0u8; 2048];
+    if octets <= FEW {
+        let mut few = [0u8; 2072];
+        let mut short = [0u8; 256];
+        return receive_through(
+            profile,
+            octets,
+            terms,
+            bits,
+            checker,
+            &mut few,
+            &mut short,
+            out,
+        );
+    }
+    let mut many = [0u8; 16408];
+    let mut long = [0u8; 2048];
     receive_through(
         profile,
         octets,
         terms,
         bits,
         checker,
-        &mut room,
-        &mut block,
+        &mut many,
+        &mut long,
         out,
     )
 }

@@ -1,5 +1,6 @@
 // Receiving: every block's stretch is gathered into a word and tested in turn, its own checksum with it, and the word's own bits are kept.
 use crate::inner;
+use crate::sending::FEW;
 use bits::count::CodedBits;
 use bits::count::Terms;
 use checking::Checker;
@@ -23,7 +24,7 @@ fn rebuild(
     word: &mut [u8],
     room: &mut [u8],
 ) -> bool
-    requires { ⌜ ReceivablePlan (now profile) terms (now bits) plan × (from ≡ versionStart (now profile) (plan .bits) terms) × Fits (now profile) plan (now word) × (16408 ≤ length (now room)) ⌝ }
+    requires { ⌜ ReceivablePlan (now profile) terms (now bits) plan × (from ≡ versionStart (now profile) (plan .bits) terms) × Fits (now profile) plan (now word) × (plan .bits ≤ length (now room)) ⌝ }
     ensures { λ r. ⌜ Rebuilt (now (profile .entry)) terms (now (bits .entry)) (plan .bits) r (now (room .exit)) ⌝ }
 {
     let g = CodedBits(bits.len());
@@ -63,12 +64,25 @@ pub fn rebuild_bits(
     checker: Checker,
     room: &mut [u8],
 ) -> bool
-    requires { ⌜ ReceivablePlan (now profile) terms (now bits) plan × (16408 ≤ length (now room)) ⌝ }
+    requires { ⌜ ReceivablePlan (now profile) terms (now bits) plan × (plan .bits ≤ length (now room)) ⌝ }
     ensures { λ r. ⌜ Rebuilt (now (profile .entry)) terms (now (bits .entry)) (plan .bits) r (now (room .exit)) ⌝ }
 {
     let n = block::inner::size(profile, plan);
     let from = block::inner::start(profile, plan, terms.rv);
-    let mut word = [0u8; 4860];
+    if n <= FEW {
+        let mut few = [0u8; 1944];
+        return rebuild(
+            profile,
+            plan,
+            bits,
+            terms,
+            from,
+            checker,
+            &mut few[..n],
+            room,
+        );
+    }
+    let mut many = [0u8; 4860];
     rebuild(
         profile,
         plan,
@@ -76,7 +90,7 @@ pub fn rebuild_bits(
         terms,
         from,
         checker,
-        &mut word[..n],
+        &mut many[..n],
         room,
     )
 }

@@ -10,6 +10,9 @@ ghost use Rattle.block.specs.steps.Blocks.{Fits};
 ghost use Rattle.coding.specs.Joining.{radioBits};
 ghost use Rattle.coding.specs.steps.Sending.{versionStart, Sendable};
 
+// So many places are a short coded block: 24 columns of the largest z. It is given less room, so that no more is cleared than it takes.
+pub const FEW: usize = 1944;
+
 // Writes the blocks one behind the other, each from the place `from` of its coded word on; `word` is room for one.
 fn send_blocks(
     profile: &[u8],
@@ -63,6 +66,10 @@ pub fn send_bits(
 {
     let n = block::inner::size(profile, plan);
     let from = block::inner::start(profile, plan, terms.rv);
-    let mut room = [0u8; 4860];
-    send_blocks(profile, plan, bits, terms, g, from, &mut room[..n], out);
+    if n <= FEW {
+        let mut few = [0u8; 1944];
+        return send_blocks(profile, plan, bits, terms, g, from, &mut few[..n], out);
+    }
+    let mut many = [0u8; 4860];
+    send_blocks(profile, plan, bits, terms, g, from, &mut many[..n], out)
 }

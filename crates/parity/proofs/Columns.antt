@@ -1,26 +1,25 @@
 -- The sums of the rows, column by column: a group doubled, an entry, a row and a column more, and the test of the sums.
 use mathlib.Core.Path.{_≡_, refl, sym, ap, _∙_, subst, subst₂}
-use mathlib.Core.Bool.{Bool, true, false, not}
+use mathlib.Core.Bool.{Bool, true, false, not, true≢false}
 use mathlib.Core.List.{List}
-use Prim.Native.Nat.{ℕ, suc, _+_, _-_, _*_, _/_, _%_, _≤_, _<_}
-use native.Mathlib.Nat.{le-antisymm, zero-add, add-comm, suc-mul, mul-le-mul-right, mod-lt, mod-eq-of-lt, mod-eq-sub-mod, div-add-mod', div-lt-iff-lt-mul}
+use Prim.Native.Nat.{ℕ, suc, _+_, _-_, _*_, _%_, _≤_, _<_}
+use native.Mathlib.Nat.{le-antisymm, zero-add, add-comm, suc-mul, mul-le-mul-right, mod-eq-of-lt, mod-eq-sub-mod}
 use native.Mathlib.Numerals.{add-one}
 use native.Mathlib.Omega.{arith}
-use lib.Arith.{digits-lt}
-use lib.ListN.{length, getD, take, replicate, length-replicate, List·getD-eq-default}
-use lib.Seq.{length-take-le}
+use lib.ListN.{length, getD, take, drop, replicate, length-replicate, length-take, List·getD-eq-default}
+use lib.Seq.{length-take-le, getD-take, getD-drop}
 use borrow.Author.Tests.{eq-eqb, ne-eqb}
-use Rattle.bits.specs.Bits.{AreBits, someOver}
-use Rattle.bits.specs.Ranges.{sumBelow}
+use Rattle.bits.specs.Bits.{AreBits}
+use Rattle.bits.specs.Ranges.{sumBelow, allBelow}
 use Rattle.bits.proofs.Over.{none-over, not-over}
-use Rattle.bits.proofs.Ranges.{last-or, below-or, equal-or}
+use Rattle.bits.proofs.Ranges.{last-or, below-or, equal-or, either-way, all-at, all-of}
 use Rattle.profile.specs.Record.{entry}
 use Rattle.parity.specs.Matrix.{checks}
 use Rattle.parity.specs.steps.Grouped.{lowBit, entryBit, term, rowPart, Shape}
-use Rattle.parity.specs.steps.Runs.{Run, copied, added, entered, Doubled, Sums}
+use Rattle.parity.specs.steps.Runs.{lanes, span, Run, copied, added, entered, Doubled, Sums, evenRow}
 use Rattle.parity.proofs.Spread.{entry-bit-empty, entry-bit-filled, checks-row, row-checks}
 use Rattle.parity.proofs.Rows.{part-same}
-use Rattle.parity.proofs.Runs.{zeros-take, run-bits, run-same, copied-lt}
+use Rattle.parity.proofs.Runs.{span-wide, span-fits, zeros-take, run-bits, run-same, copied-lt}
 
 -- ---- groups of z places: those before n lie inside, and where the next one starts
 
@@ -32,15 +31,16 @@ group-next j z = sym (suc-mul j z) ∙ ap (λ (x : ℕ). x * z) (sym (add-one j)
 
 -- ---- a group, doubled
 
-pub doubled : (w : List ℕ) (base z : ℕ) (a b c : List ℕ) → AreBits a → Run z (copied w base) a 0 b → Run z (copied w base) b z c → Doubled w base z c
+-- n places of the word in either run, of which z are the group's
+pub doubled : (w : List ℕ) (base z n : ℕ) (a b c : List ℕ) → z ≤ n → AreBits a → Run n (copied w base) a 0 b → Run n (copied w base) b z c → Doubled w base z c
 unfolding copied
-doubled w base z a b c h p q =
+doubled w base z n a b c wide h p q =
     record {
-      bits = run-bits _ b z z c q (λ k l. copied-lt w base k) (run-bits _ a 0 z b p (λ k l. copied-lt w base k) h);
+      bits = run-bits _ b z n c q (λ k l. copied-lt w base k) (run-bits _ a 0 n b p (λ k l. copied-lt w base k) h);
       at = λ k l.
           below-or k z
           (λ o.
-          q .below k o ∙ ap (λ (x : ℕ). getD b x 0) (sym (zero-add k)) ∙ p .inside k o
+          q .below k o ∙ ap (λ (x : ℕ). getD b x 0) (sym (zero-add k)) ∙ p .inside k (omega arith)
           ∙ ap (λ (x : ℕ). lowBit w (base + x)) (sym (mod-eq-of-lt o)))
           (λ o.
           let e : z + (k - z) ≡ k = omega arith in
@@ -50,8 +50,8 @@ doubled w base z a b c h p q =
 
 -- ---- an entry
 
-module _ (a : List ℕ) (at s : ℕ) (g : List ℕ) (z : ℕ) where
-  pub entered-empty : s ≡ 255 → AreBits a → Run z (entered a at s g) a at a
+module _ (a : List ℕ) (at s : ℕ) (g : List ℕ) (n : ℕ) where
+  pub entered-empty : s ≡ 255 → AreBits a → Run n (entered a at s g) a at a
   unfolding entered
   entered-empty e h =
       record {
@@ -61,9 +61,9 @@ module _ (a : List ℕ) (at s : ℕ) (g : List ℕ) (z : ℕ) where
         above = λ p l. refl;
       }
 
-  pub entered-filled : (from : ℕ) (b : List ℕ) → (s ≡ 255 → ⊥) → from ≡ s → Run z (added a at g from) a at b → Run z (entered a at s g) a at b
+  pub entered-filled : (from : ℕ) (b : List ℕ) → (s ≡ 255 → ⊥) → from ≡ s → Run n (added a at g from) a at b → Run n (entered a at s g) a at b
   unfolding added entered
-  entered-filled from b n e r = run-same (λ k l. rw (e, ne-eqb s 255 n)) r
+  entered-filled from b d e r = run-same (λ k l. rw (e, ne-eqb s 255 d)) r
 
   entered-lt : (k : ℕ) → entered a at s g k < 2
   unfolding entered
@@ -81,58 +81,62 @@ entered-entry-bit z w base s u a at g d h low =
 
 -- ---- the sums
 
+even-none : (b : Bool) → not b ≡ true → b ≡ false
+even-none false e = refl
+even-none true e = absurd (true≢false (sym e))
+
 module _ (T : List ℕ) (rows columns z : ℕ) (w : List ℕ) where
   part-more : (j i u : ℕ) → rowPart T columns z w (suc j) i u ≡ rowPart T columns z w j i u + entryBit z w (getD T (i * columns + j) 0) (j * z) u
   unfolding rowPart sumBelow term entry
   part-more j i u = refl
 
   -- over no column
-  sums-none : (s : List ℕ) → length s ≡ rows * z → ((k : ℕ) → getD s k 0 ≡ 0) → Sums T rows columns z w 0 0 s
+  sums-none : (s : List ℕ) → length s ≡ rows * lanes → ((k : ℕ) → getD s k 0 ≡ 0) → Sums T rows columns z w 0 0 s
   unfolding rowPart sumBelow
   sums-none s e h =
       record {
         size = e;
         bits = λ k. omega (arith, h k);
         done = λ i u l. absurd (omega arith);
-        left = λ i u l o low. h (i * z + u);
+        left = λ i u l o low. h (i * lanes + u);
       }
 
-  -- all rows of z places, in the front of so many cleared ones
-  pub sums-room : (n : ℕ) → rows * z ≤ n → Sums T rows columns z w 0 0 (take (rows * z) (replicate n 0))
-  sums-room n h = sums-none (take (rows * z) (replicate n 0)) (length-take-le (rows * z) (replicate n 0) (omega (arith, length-replicate {A = ℕ} n 0))) (zeros-take (rows * z) n)
+  -- the lanes of all rows, in the front of so many cleared ones
+  pub sums-room : (n : ℕ) → rows * lanes ≤ n → Sums T rows columns z w 0 0 (take (rows * lanes) (replicate n 0))
+  sums-room n h =
+      sums-none (take (rows * lanes) (replicate n 0)) (length-take-le (rows * lanes) (replicate n 0) (omega (arith, length-replicate {A = ℕ} n 0))) (zeros-take (rows * lanes) n)
 
-  -- one row more of column j
-  row-made : (j i : ℕ) (g a b : List ℕ) → Shape T rows columns z → Doubled w (j * z) z g → i < rows → Sums T rows columns z w j i a
-      → Run z (entered a (i * z) (getD T (i * columns + j) 0) g) a (i * z) b → Sums T rows columns z w j (i + 1) b
-  row-made j i g a b shape d h sums r =
+  -- one row more of column j, in n lanes
+  row-made : (j i n : ℕ) (g a b : List ℕ) → Shape T rows columns z → z ≤ n → n ≤ lanes → Doubled w (j * z) z g → i < rows → Sums T rows columns z w j i a
+      → Run n (entered a (i * lanes) (getD T (i * columns + j) 0) g) a (i * lanes) b → Sums T rows columns z w j (i + 1) b
+  row-made j i n g a b shape wide fits d h sums r =
       record {
         size = r .len ∙ sums .size;
-        bits = run-bits _ a (i * z) z b r (λ k l. entered-lt a (i * z) (getD T (i * columns + j) 0) g z k) (sums .bits);
+        bits = run-bits _ a (i * lanes) n b r (λ k l. entered-lt a (i * lanes) (getD T (i * columns + j) 0) g n k) (sums .bits);
         done = λ i' u l low.
-            last-or i' i (omega arith) (λ o. r .below (i' * z + u) (digits-lt o low) ∙ sums .done i' u o low)
+            last-or i' i (omega arith) (λ o. r .below (i' * lanes + u) (omega arith) ∙ sums .done i' u o low)
             (λ q. here i' u q low);
-        left = λ i' u l o low.
-            r .above (i' * z + u) (omega (arith, group-in i i' z (omega arith))) ∙ sums .left i' u (omega arith) o low;
+        left = λ i' u l o low. r .above (i' * lanes + u) (omega arith) ∙ sums .left i' u (omega arith) o low;
       }
     where
-      here : (i' u : ℕ) → i' ≡ i → u < z → getD b (i' * z + u) 0 ≡ rowPart T columns z w (suc j) i' u % 2
+      here : (i' u : ℕ) → i' ≡ i → u < z → getD b (i' * lanes + u) 0 ≡ rowPart T columns z w (suc j) i' u % 2
       here i' u q low =
-          let e : getD b (i' * z + u) 0 ≡ getD b (i * z + u) 0 = ap (λ (x : ℕ). getD b (x * z + u) 0) q in
+          let e : getD b (i' * lanes + u) 0 ≡ getD b (i * lanes + u) 0 = ap (λ (x : ℕ). getD b (x * lanes + u) 0) q in
           let f : rowPart T columns z w (suc j) i' u ≡ rowPart T columns z w (suc j) i u = ap (λ (x : ℕ). rowPart T columns z w (suc j) x u) q in
           omega (
             arith,
             e,
             f,
-            r .inside u low,
-            entered-entry-bit z w (j * z) (getD T (i * columns + j) 0) u a (i * z) g d (shape .shifts (i * columns + j)) low,
+            r .inside u (omega arith),
+            entered-entry-bit z w (j * z) (getD T (i * columns + j) 0) u a (i * lanes) g d (shape .shifts (i * columns + j)) low,
             sums .left i u (omega arith) h low,
             part-more j i u,
           )
 
-  pub sums-row : {j i n at e : ℕ} {g a b : List ℕ} → Shape T rows columns z → Doubled w (j * z) z g → i < rows → n ≡ i + 1 → at ≡ i * z → e ≡ i * columns + j
-      → Sums T rows columns z w j i a → Run z (entered a at (getD T e 0) g) a at b → Sums T rows columns z w j n b
+  pub sums-row : {j i n at e : ℕ} {g a b : List ℕ} → Shape T rows columns z → Doubled w (j * z) z g → i < rows → n ≡ i + 1 → at ≡ i * lanes → e ≡ i * columns + j
+      → Sums T rows columns z w j i a → Run (span z) (entered a at (getD T e 0) g) a at b → Sums T rows columns z w j n b
   sums-row {j} {i} {n} {at} {e} {g} {a} {b} shape d h next p q sums r =
-      rw next (row-made j i g a b shape d h sums (subst₂ (λ (x y : ℕ). Run z (entered a x (getD T y 0) g) a x b) p q r))
+      rw next (row-made j i (span z) g a b shape (span-wide z (shape .z-most)) (span-fits z (shape .z-most)) d h sums (subst₂ (λ (x y : ℕ). Run (span z) (entered a x (getD T y 0) g) a x b) p q r))
 
   -- a whole column more
   pub sums-column : {j i : ℕ} {s : List ℕ} → rows ≤ i → Sums T rows columns z w j i s → Sums T rows columns z w (j + 1) 0 s
@@ -158,26 +162,35 @@ module _ (T : List ℕ) (rows columns z : ℕ) (w : List ℕ) where
         left = λ i u l o low. sums .left i u l o low ∙ ap (λ (x : ℕ). x % 2) (part-same T columns z w v n some same i u);
       }
 
-  -- over all columns: no sum is over 0 exactly where the word checks
-  module _ (s : List ℕ) (some : 0 < z) (sums : Sums T rows columns z w columns 0 s) where
-    sum-at : (p : ℕ) → p < rows * z → getD s p 0 ≡ rowPart T columns z w columns (p / z) (p % z) % 2
-    sum-at p l =
-        ap (λ (x : ℕ). getD s x 0) (sym (div-add-mod' p z))
-        ∙ sums .left (p / z) (p % z) (omega arith) (div-lt-iff-lt-mul some .1 l) (mod-lt p some)
+  -- over all columns: the sums of every row are 0 exactly where the word checks
+  module _ (s : List ℕ) (sums : Sums T rows columns z w columns 0 s) where
+    sum-at : (i u : ℕ) → u < z → getD (take z (drop (i * lanes) s)) u 0 ≡ getD s (i * lanes + u) 0
+    sum-at i u l = getD-take z (drop (i * lanes) s) u 0 l ∙ getD-drop (i * lanes) s u 0
 
-    zeros : checks T rows columns z w ≡ true → (p : ℕ) → getD s p 0 ≤ 0
-    zeros e p =
-        below-or p (rows * z)
-        (λ l. omega (arith, sum-at p l, checks-row T columns z w rows e (p / z) (p % z) (div-lt-iff-lt-mul some .1 l) (mod-lt p some)))
-        (λ l. omega (arith, List·getD-eq-default s 0 {n = p} (omega (arith, sums .size))))
+    -- past its z sums a row has none
+    sum-past : (i u : ℕ) → z ≤ u → getD (take z (drop (i * lanes) s)) u 0 ≡ 0
+    sum-past i u l = List·getD-eq-default (take z (drop (i * lanes) s)) 0 {n = u} (omega (arith, length-take z (drop (i * lanes) s)))
 
-    even : someOver 0 s ≡ false → checks T rows columns z w ≡ true
-    even e = row-checks T columns z w rows (λ i u h low. omega (arith, sums .left i u (omega arith) h low, none-over 0 s e (i * z + u)))
+    zeros : checks T rows columns z w ≡ true → (i : ℕ) → i < rows → (u : ℕ) → getD (take z (drop (i * lanes) s)) u 0 ≤ 0
+    zeros e i h u =
+        below-or u z (λ l. omega (arith, sum-at i u l, sums .left i u (omega arith) h l, checks-row T columns z w rows e i u h l))
+        (λ l. omega (arith, sum-past i u l))
 
-    pub sums-checks : not (someOver 0 s) ≡ checks T rows columns z w
-    sums-checks = by-values (someOver 0 s) (checks T rows columns z w) refl refl
-      where
-        by-values : (a b : Bool) → someOver 0 s ≡ a → checks T rows columns z w ≡ b → not a ≡ b
-        by-values false b p q = sym (even p) ∙ q
-        by-values true false p q = refl
-        by-values true true p q = sym (ap not (sym (not-over 0 s (zeros q)) ∙ p))
+    even-rows : checks T rows columns z w ≡ true → allBelow rows (evenRow s z) ≡ true
+    unfolding evenRow
+    even-rows e = all-of rows (evenRow s z) (λ i h. ap not (not-over 0 (take z (drop (i * lanes) s)) (zeros e i h)))
+
+    rows-even : allBelow rows (evenRow s z) ≡ true → checks T rows columns z w ≡ true
+    unfolding evenRow
+    rows-even e =
+        row-checks T columns z w rows
+        (λ i u h l.
+        omega (
+          arith,
+          sums .left i u (omega arith) h l,
+          sum-at i u l,
+          none-over 0 (take z (drop (i * lanes) s)) (even-none _ (all-at rows (evenRow s z) e i h)) u,
+        ))
+
+    pub sums-checks : allBelow rows (evenRow s z) ≡ checks T rows columns z w
+    sums-checks = either-way (allBelow rows (evenRow s z)) (checks T rows columns z w) rows-even even-rows

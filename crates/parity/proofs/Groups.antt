@@ -10,7 +10,7 @@ use lib.ListN.{length, getD}
 use Rattle.bits.specs.Ranges.{sumBelow}
 use Rattle.bits.proofs.Ranges.{last-or}
 use Rattle.parity.specs.steps.Grouped.{lowBit, rowPart, stack, due, Begun}
-use Rattle.parity.specs.steps.Runs.{Run, copied, added, Sums, down, allRows, rowsAbove, Groups, Together}
+use Rattle.parity.specs.steps.Runs.{lanes, Run, copied, added, Sums, down, allRows, rowsAbove, Groups, Together}
 use Rattle.parity.proofs.Rows.{same-bit, part-same, stack-same}
 use Rattle.parity.proofs.Runs.{run-bits}
 use Rattle.parity.proofs.Columns.{sums-word}
@@ -18,16 +18,16 @@ use Rattle.parity.proofs.Unique.{due-first, due-next, due-later, due-sa
 
 -- ---- the rows of s together, in a group
 
-module _ (s : List ℕ) (z : ℕ) where
-  pub together-none : (g : List ℕ) → ((k : ℕ) → getD g k 0 ≡ 0) → Together s z 0 g
+module _ (s : List ℕ) where
+  pub together-none : (g : List ℕ) → ((k : ℕ) → getD g k 0 ≡ 0) → Together s 0 g
   unfolding down sumBelow
   together-none g h = record { bits = λ k. omega (arith, h k); at = λ u l. h u }
 
-  pub together-more : {r row : ℕ} {a b : List ℕ} → row ≡ r * z → Together s z r a → Run z (added a 0 s row) a 0 b → Together s z (r + 1) b
+  pub together-more : {r row : ℕ} {a b : List ℕ} → row ≡ r * lanes → Together s r a → Run lanes (added a 0 s row) a 0 b → Together s (r + 1) b
   unfolding down sumBelow added
   together-more {r} {row} {a} {b} e h run =
       record {
-        bits = run-bits _ a 0 z b run (λ k l. omega arith) (h .bits);
+        bits = run-bits _ a 0 lanes b run (λ k l. omega arith) (h .bits);
         at = λ u l. rw (add-one r)
             (omega (
               arith,
@@ -39,10 +39,10 @@ module _ (s : List ℕ) (z : ℕ) where
             ));
       }
 
-  pub together-all : {r n : ℕ} {g : List ℕ} → r ≤ n → n ≤ r → Together s z r g → Together s z n g
-  together-all {r} {n} {g} h l u = subst (λ (x : ℕ). Together s z x g) (le-antisymm h l) u
+  pub together-all : {r n : ℕ} {g : List ℕ} → r ≤ n → n ≤ r → Together s r g → Together s n g
+  together-all {r} {n} {g} h l u = subst (λ (x : ℕ). Together s x g) (le-antisymm h l) u
 
-  together-copied : (r : ℕ) (g : List ℕ) → Together s z r g → (u : ℕ) → u < z → copied g 0 u ≡ down s z r u % 2
+  together-copied : (r : ℕ) (g : List ℕ) → Together s r g → (u : ℕ) → u < lanes → copied g 0 u ≡ down s r u % 2
   unfolding copied lowBit
   together-copied r g h u l = omega (arith, ap (λ (x : ℕ). getD g x 0) (zero-add u), h .at u l)
 
@@ -73,22 +73,22 @@ module _ (z : ℕ) (f : ℕ → ℕ → ℕ) (a : List ℕ) (at : ℕ) where
       (groups-more 0 h a b groups-none (subst (λ (x : ℕ). Run z h a x b) (sym (ap (λ (x : ℕ). at + x) (zero-mul z) ∙ add-zero at)) r) e)
 
 -- the first parity column, and one more of the others
-module _ (s : List ℕ) (z : ℕ) (a : List ℕ) (at : ℕ) where
-  pub laid-first : {m : ℕ} {g b : List ℕ} → Together s z m g → Run z (copied g 0) a at b → Groups z 1 (allRows s z m) a at b
+module _ (s : List ℕ) (z : ℕ) (a : List ℕ) (at : ℕ) (most : z ≤ 81) where
+  pub laid-first : {m : ℕ} {g b : List ℕ} → Together s m g → Run z (copied g 0) a at b → Groups z 1 (allRows s m) a at b
   unfolding allRows
-  laid-first {m} {g} {b} h r = groups-one z _ a at (copied g 0) b r (together-copied s z m g h)
+  laid-first {m} {g} {b} h r = groups-one z _ a at (copied g 0) b r (λ u l. together-copied s m g h u (omega arith))
 
-  pub laid-more : {n to : ℕ} {g b c : List ℕ} → Together s z (n + 1) g → Groups z n (rowsAbove s z) a at b
-      → Run z (copied g 0) b to c → to ≡ at + n * z → Groups z (n + 1) (rowsAbove s z) a at c
+  pub laid-more : {n to : ℕ} {g b c : List ℕ} → Together s (n + 1) g → Groups z n (rowsAbove s) a at b
+      → Run z (copied g 0) b to c → to ≡ at + n * z → Groups z (n + 1) (rowsAbove s) a at c
   unfolding rowsAbove
   laid-more {n} {to} {g} {b} {c} h groups r e =
       groups-more z _ a at n (copied g 0) b c groups (subst (λ (x : ℕ). Run z (copied g 0) b x c) e r)
-      (together-copied s z (suc n) g (subst (λ (x : ℕ). Together s z x g) (add-one n) h))
+      (λ u l. together-copied s (suc n) g (subst (λ (x : ℕ). Together s x g) (add-one n) h) u (omega arith))
 
 -- ---- what the sums of the rows come to, together
 
 down-stack : (T : List ℕ) (rows columns z : ℕ) (w : List ℕ) (n : ℕ) (s : List ℕ) → Sums T rows columns z w n 0 s → (r : ℕ) → r ≤ rows
-    → (u : ℕ) → u < z → down s z r u % 2 ≡ stack T columns z w n r u % 2
+    → (u : ℕ) → u < z → down s r u % 2 ≡ stack T columns z w n r u % 2
 unfolding down stack sumBelow
 down-stack T rows columns z w n s sums zero l u low = refl
 down-stack T rows columns z w n s sums (suc r) l u low =
@@ -106,15 +106,15 @@ steps-in kb m rows z h l =
 
 -- the staircase's columns laid
 module _ (T : List ℕ) (kb m rows columns z : ℕ) (a b c s s' : List ℕ) (some : 0 < z) (tall : m ≤ rows) (sums : Sums T rows columns z a kb 0 s)
-    (sums' : Sums T rows columns z b (kb + 1) 0 s') (one : Groups z 1 (allRows s z m) a (kb * z) b)
-    (next : Groups z (m - 1) (rowsAbove s' z) b ((kb + 1) * z) c) where
+    (sums' : Sums T rows columns z b (kb + 1) 0 s') (one : Groups z 1 (allRows s m) a (kb * z) b)
+    (next : Groups z (m - 1) (rowsAbove s') b ((kb + 1) * z) c) where
   step : (kb + 1) * z ≡ kb * z + z
   step = ap (λ (x : ℕ). x * z) (add-one kb) ∙ suc-mul kb z
 
   front : (p : ℕ) → p < kb * z → getD c p 0 ≡ getD a p 0
   front p l = next .below p (omega (arith, step)) ∙ one .below p l
 
-  first-at : (u : ℕ) → u < z → getD c ((kb + 0) * z + u) 0 ≡ down s z m u % 2
+  first-at : (u : ℕ) → u < z → getD c ((kb + 0) * z + u) 0 ≡ down s m u % 2
   unfolding allRows
   first-at u low =
       ap (λ (x : ℕ). getD c (x * z + u) 0) (add-zero kb)
@@ -122,7 +122,7 @@ module _ (T : List ℕ) (kb m rows columns z : ℕ) (a b c s s' : List ℕ) (som
       ∙ ap (λ (x : ℕ). getD b (x + u) 0) (sym (ap (λ (x : ℕ). kb * z + x) (zero-mul z) ∙ add-zero (kb * z)))
       ∙ one .inside 0 u (omega arith) low
 
-  next-at : (n u : ℕ) → suc n < m → u < z → getD c ((kb + suc n) * z + u) 0 ≡ down s' z (suc n) u % 2
+  next-at : (n u : ℕ) → suc n < m → u < z → getD c ((kb + suc n) * z + u) 0 ≡ down s' (suc n) u % 2
   unfolding rowsAbove
   next-at n u l low =
       let e : kb + suc n ≡ kb + 1 + n = omega arith in
@@ -152,7 +152,7 @@ pub own-same : (w w' : List ℕ) {z at : ℕ} {f : ℕ → ℕ} → Run z f w at
 own-same w w' r p l = same-bit w w' p (sym (r .below p l))
 
 module _ (T : List ℕ) (kb m rows columns z : ℕ) (w w' s : List ℕ) (some : 0 < z) where
-  own-at : (n : ℕ) → 0 < m → m ≤ n → n < rows → Sums T rows columns z w (kb + n) 0 s → Run z (copied s (n * z)) w ((kb + n) * z) w'
+  own-at : (n : ℕ) → 0 < m → m ≤ n → n < rows → Sums T rows columns z w (kb + n) 0 s → Run z (copied s (n * lanes)) w ((kb + n) * z) w'
       → (u : ℕ) → u < z → getD w' ((kb + n) * z + u) 0 ≡ due T kb m columns z w' n u % 2
   unfolding copied lowBit
   own-at n rowed h l sums r u low =
@@ -161,7 +161,7 @@ module _ (T : List ℕ) (kb m rows columns z : ℕ) (w w' s : List ℕ) (some : 
       omega (arith, r .inside u low, sums .left n u (omega arith) l low, d)
 
   pub begun-more : {n : ℕ} {sys : List ℕ} → 0 < m → m ≤ n → n < rows → Begun T kb m columns z sys n w → Sums T rows columns z w (kb + n) 0 s
-      → Run z (copied s (n * z)) w ((kb + n) * z) w' → Begun T kb m columns z sys (n + 1) w'
+      → Run z (copied s (n * lanes)) w ((kb + n) * z) w' → Begun T kb m columns z sys (n + 1) w'
   begun-more {n} {sys} rowed h l b sums r =
       record {
         size = r .len ∙ b .size;

@@ -8,11 +8,28 @@ use native.Mathlib.Omega.{arith}
 use lib.Bits.{bitAnd, bitXor, and-mask, xor-lt}
 use lib.ListN.{length, getD, take, drop, set, replicate, length-set, drop-of-length-le}
 use lib.Seq.{getD-set-same, getD-set-other, drop-cons, sets, sets-eq}
+use borrow.Author.Tests.{lt-ltb, le-ltb}
 use Rattle.bits.specs.Bits.{AreBits}
 use Rattle.bits.proofs.Ranges.{last-or, below-or}
 use Rattle.bits.proofs.Xor.{xor-sum}
 use Rattle.parity.specs.steps.Grouped.{lowBit}
-use Rattle.parity.specs.steps.Runs.{Run, copied, added}
+use Rattle.parity.specs.steps.Runs.{lanes, span, Run, copied, added}
+
+-- how many lanes are added: z of them and more, and no more than there are
+module _ (z : ℕ) where
+  pub span-all : 16 < z → span z ≡ lanes
+  unfolding span
+  span-all h = rw (lt-ltb 16 z h)
+
+  pub span-few : z ≤ 16 → span z ≡ z
+  unfolding span
+  span-few h = rw (le-ltb 16 z h)
+
+  pub span-wide : z ≤ 81 → z ≤ span z
+  span-wide h = below-or 16 z (λ l. omega (arith, span-all l)) (λ l. omega (arith, span-few l))
+
+  pub span-fits : z ≤ 81 → span z ≤ lanes
+  span-fits h = below-or 16 z (λ l. omega (arith, span-all l)) (λ l. omega (arith, span-few l))
 
 -- a list of zeros
 pub zeros-at : (n k : ℕ) → _≡_ {A = ℕ} (getD (replicate n 0) k 0) 0
@@ -81,6 +98,9 @@ copied-lt g from k = omega (arith, copied-low g from k)
 
 pub run-same : {n : ℕ} {f g : ℕ → ℕ} {a : List ℕ} {at : ℕ} {b : List ℕ} → ((k : ℕ) → k < n → f k ≡ g k) → Run n f a at b → Run n g a at b
 run-same h r = record { len = r .len; inside = λ k l. r .inside k l ∙ h k l; below = r .below; above = r .above }
+
+pub run-long : {n k : ℕ} {f : ℕ → ℕ} {a : List ℕ} {at : ℕ} {b : List ℕ} → n ≡ k → Run k f a at b → Run n f a at b
+run-long {n} {k} {f} {a} {at} {b} e r = subst (λ (x : ℕ). Run x f a at b) (sym e) r
 
 -- ---- a copy to the front
 

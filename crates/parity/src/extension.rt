@@ -1,9 +1,10 @@
 // The parity columns past the staircase: each is its own row's sum over all columns before it.
 use crate::run;
+use crate::run::LANES;
 use crate::sums;
 ghost use Prim.Native.Nat.{_+_, _*_, _<_};
 ghost use Rattle.parity.specs.steps.Grouped.{Codable, Begun};
-ghost use Rattle.parity.specs.steps.Runs.{Run, copied, Sums, Adding};
+ghost use Rattle.parity.specs.steps.Runs.{lanes, Run, copied, Sums, Adding};
 
 // Row n's sum is column kb + n, which is `own`: it is copied there, and then added as a column.
 fn lay_own(
@@ -17,9 +18,9 @@ fn lay_own(
     sums: &mut [u8],
 )
     requires { ⌜ Adding (now table) rows columns z (now word) own (now sums) × (n < rows) × (own < columns) ⌝ }
-    ensures { λ _. ⌜ Run z (copied (now (sums .entry)) (n * z)) (now (word .entry)) (own * z) (now (word .exit)) × Sums (now (table .entry)) rows columns z (now (word .exit)) (own + 1) 0 (now (sums .exit)) ⌝ }
+    ensures { λ _. ⌜ Run z (copied (now (sums .entry)) (n * lanes)) (now (word .entry)) (own * z) (now (word .exit)) × Sums (now (table .entry)) rows columns z (now (word .exit)) (own + 1) 0 (now (sums .exit)) ⌝ }
 {
-    run::copy_bits(word, own * z, sums, n * z, z);
+    run::copy_bits(word, own * z, sums, n * LANES, z);
     sums::add_columns(table, rows, columns, z, own, own + 1, word, sums);
 }
 

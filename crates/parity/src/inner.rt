@@ -1,5 +1,6 @@
 // For the crates above: whether a z and a length are the profile's; coding and checking where the table is known to go with z and the word's length is right.
 use crate::extension;
+use crate::run::LANES;
 use crate::stairs;
 use crate::sums;
 ghost use mathlib.Core.Path.{_≡_};
@@ -23,37 +24,21 @@ pub fn is_unfit(profile: &[u8], z: usize, n: usize, w: &[u8]) -> bool
     w.len() != n * z
 }
 
-// Most tables have few sums: these are given less room, so that no more is cleared for a small block than it takes.
-const FEW: usize = 972;
-
-fn checks_few(table: &[u8], rows: usize, columns: usize, z: usize, word: &[u8]) -> bool
-    requires { ⌜ Shape (now table) rows columns z × (length (now word) ≡ columns * z) × (rows * z ≤ 972) ⌝ }
-    ensures { λ r. ⌜ r ≡ checks (now (table .entry)) rows columns z (now (word .entry)) ⌝ }
-{
-    let mut room = [0u8; 972];
-    let n = rows * z;
-    sums::are_even(table, rows, columns, z, word, &mut room[..n])
-}
-
-fn checks_many(table: &[u8], rows: usize, columns: usize, z: usize, word: &[u8]) -> bool
-    requires { ⌜ Shape (now table) rows columns z × (length (now word) ≡ columns * z) ⌝ }
-    ensures { λ r. ⌜ r ≡ checks (now (table .entry)) rows columns z (now (word .entry)) ⌝ }
-{
-    let mut room = [0u8; 3240];
-    let n = rows * z;
-    sums::are_even(table, rows, columns, z, word, &mut room[..n])
-}
+// Most tables have few rows: these are given less room, so that no more is cleared for a small block than it takes.
+const FEW: usize = 12;
 
 // Whether the word checks: every row of the spread-out matrix sums to an even number over it.
 pub fn checks(table: &[u8], rows: usize, columns: usize, z: usize, word: &[u8]) -> bool
     requires { ⌜ Shape (now table) rows columns z × (length (now word) ≡ columns * z) ⌝ }
     ensures { λ r. ⌜ r ≡ checks (now (table .entry)) rows columns z (now (word .entry)) ⌝ }
 {
-    let n = rows * z;
-    if n <= FEW {
-        return checks_few(table, rows, columns, z, word);
+    let n = rows * LANES;
+    if rows <= FEW {
+        let mut few = [0u8; 1152];
+        return sums::are_even(table, rows, columns, z, word, &mut few[..n]);
     }
-    checks_many(table, rows, columns, z, word)
+    let mut many = [0u8; 3840];
+    sums::are_even(table, rows, columns, z, word, &mut many[..n])
 }
 
 // Lays the staircase's m columns. `room` holds the sums of all rows, zeros at first, and then those over the columns 0 .. kb.
@@ -97,40 +82,6 @@ fn solve(
     }
 }
 
-fn code_few(
-    table: &[u8],
-    kb: usize,
-    m: usize,
-    rows: usize,
-    columns: usize,
-    z: usize,
-    word: &mut [u8],
-)
-    requires { ⌜ Codable (now table) kb m rows columns z (now word) × (rows * z ≤ 972) ⌝ }
-    ensures { λ _. ⌜ Solution (now (table .entry)) kb m rows columns z (now (word .entry)) (now (word .exit)) ⌝ }
-{
-    let mut room = [0u8; 972];
-    let used = rows * z;
-    solve(table, kb, m, rows, columns, z, word, &mut room[..used]);
-}
-
-fn code_many(
-    table: &[u8],
-    kb: usize,
-    m: usize,
-    rows: usize,
-    columns: usize,
-    z: usize,
-    word: &mut [u8],
-)
-    requires { ⌜ Codable (now table) kb m rows columns z (now word) ⌝ }
-    ensures { λ _. ⌜ Solution (now (table .entry)) kb m rows columns z (now (word .entry)) (now (word .exit)) ⌝ }
-{
-    let mut room = [0u8; 3240];
-    let used = rows * z;
-    solve(table, kb, m, rows, columns, z, word, &mut room[..used]);
-}
-
 // Writes the parity places of the word whose systematic places, bits and filler marks, stand in front.
 pub fn code(
     table: &[u8],
@@ -144,9 +95,11 @@ pub fn code(
     requires { ⌜ Codable (now table) kb m rows columns z (now word) ⌝ }
     ensures { λ _. ⌜ Solution (now (table .entry)) kb m rows columns z (now (word .entry)) (now (word .exit)) ⌝ }
 {
-    let n = rows * z;
-    if n <= FEW {
-        return code_few(table, kb, m, rows, columns, z, word);
+    let n = rows * LANES;
+    if rows <= FEW {
+        let mut few = [0u8; 1152];
+        return solve(table, kb, m, rows, columns, z, word, &mut few[..n]);
     }
-    code_many(table, kb, m, rows, columns, z, word)
+    let mut many = [0u8; 3840];
+    solve(table, kb, m, rows, columns, z, word, &mut many[..n])
 }

@@ -4,7 +4,11 @@ ghost use mathlib.Core.List.{_++_};
 ghost use Prim.Native.Nat.{_+_, _≤_};
 ghost use lib.ListN.{length, drop};
 ghost use Rattle.bits.specs.Bits.{AreBits};
-ghost use Rattle.parity.specs.steps.Runs.{Run, copied, added};
+ghost use Rattle.parity.specs.steps.Runs.{span, Run, copied, added};
+
+// The lanes of a row's sums. A row has z sums and at most 81; the lanes behind them hold bits that nobody reads, so that every row is one run of a length that the
+// compiler knows.
+pub const LANES: usize = 96;
 
 // Writes the bits of n places of g, from `from` on, to those of out from `at` on. "Filler read as 0": the lowest digit of the mark 2.
 pub fn copy_bits(out: &mut [u8], at: usize, g: &[u8], from: usize, n: usize)
@@ -28,6 +32,17 @@ pub fn xor_run(acc: &mut [u8], at: usize, g: &[u8], from: usize, n: usize)
         acc[at + k] = acc[at + k] ^ g[from + k];
         k += 1;
     }
+}
+
+// The same for a row of z sums: all its lanes, or its sums alone where they are few.
+pub fn xor_row(acc: &mut [u8], at: usize, g: &[u8], from: usize, z: usize)
+    requires { ⌜ (at + span z ≤ length (now acc)) × (from + span z ≤ length (now g)) × AreBits (now acc) × AreBits (now g) ⌝ }
+    ensures { λ _. ⌜ Run (span z) (added (now (acc .entry)) at (now (g .entry)) from) (now (acc .entry)) at (now (acc .exit)) ⌝ }
+{
+    if 16 < z {
+        return xor_run(acc, at, g, from, LANES);
+    }
+    xor_run(acc, at, g, from, z)
 }
 
 // Writes s to the front of out, as it is.

@@ -4,7 +4,7 @@ use mathlib.Core.Bool.{Bool, true, false, _&&_, _||_}
 use mathlib.Core.List.{List}
 use Prim.Native.Nat.{ℕ, zero, suc, _+_, _-_, _*_, _≤_, _<_}
 use native.Mathlib.Nat.{suc-mul, mul-le-mul-right}
-use native.Mathlib.Numerals.{sub-one}
+use native.Mathlib.Numerals.{add-one, sub-one}
 use native.Mathlib.Omega.{arith}
 use lib.Dec.{eqb, leb, ltb}
 use lib.ListN.{length, getD, List·getD-eq-default}
@@ -24,6 +24,17 @@ same-test false x y f g = sym (ne-eqb x y (g refl))
 pub less-test : (r : Bool) (x y : ℕ) → (r ≡ true → x < y) → (r ≡ false → y ≤ x) → r ≡ ltb x y
 less-test true x y f g = sym (lt-ltb x y (f refl))
 less-test false x y f g = sym (le-ltb x y (g refl))
+
+-- ---- a test of each number below n that a straight loop makes: nothing, then one more at a time
+
+module _ (p : ℕ → Bool) where
+  pub all-none : true ≡ allBelow 0 p
+  unfolding allBelow
+  all-none = refl
+
+  pub all-more : (n : ℕ) {a b : Bool} → a ≡ allBelow n p → b ≡ p n → a && b ≡ allBelow (n + 1) p
+  unfolding allBelow
+  all-more n e q = rw (add-one n, e, q)
 
 -- ---- a table's rows and columns
 

@@ -1,4 +1,4 @@
--- The definition of a staircase says that the table is one, and says so of each.
+-- The definition of a staircase says that the table is one.
 use mathlib.Core.Path.{_≡_, refl, sym, ap, _∙_}
 use mathlib.Core.Bool.{Bool, true, false, cond, not, _&&_, _||_}
 use mathlib.Core.List.{List}
@@ -12,6 +12,7 @@ use Rattle.bits.proofs.Ranges.{last-or, equal-or, both, all-at, all-of}
 use Rattle.bits.proofs.Sums.{sum-one}
 use Rattle.profile.specs.Record.{entry, empty}
 use Rattle.profile.specs.Staircase.{filled, filledBetween, firstColumn, nextDue, nextColumn, staircase}
+use Rattle.profile.specs.steps.Walk.{column}
 
 -- column kb is filled in row 0, in the last row and in row `middle` between, and there with 0; column kb + j holds 0 in rows j - 1 and j
 pub record Staircase (T : List ℕ) (kb m columns : ℕ) : Type 0 where
@@ -28,7 +29,7 @@ pub record Staircase (T : List ℕ) (kb m columns : ℕ) : Type 0 where
 
 -- ---- exactly one of the numbers below n
 
-record Only (n : ℕ) (p : ℕ → Bool) : Type 0 where
+pub record Only (n : ℕ) (p : ℕ → Bool) : Type 0 where
   pub at : ℕ
   pub below : at < n
   pub holds : p at ≡ true
@@ -69,12 +70,20 @@ module _ (p : ℕ → Bool) where
   only zero e = absurd (omega arith)
   only (suc n) e = by-last n (p n) refl e (only n)
 
+  pub only-at : (n : ℕ) (o : Only n p) (k : ℕ) → k < n → p k ≡ true → k ≡ o .at
+  only-at n o k l e =
+      equal-or k (o .at) (λ q. q)
+      (λ d.
+      let z : _≡_ {A = Bool} true false = sym e ∙ o .others k l d in
+      let y : _≡_ {A = ℕ} 0 1 = cc in
+      absurd (omega arith))
+
   only-one : (n : ℕ) → Only n p → sumBelow n marked ≡ 1
   only-one n o = sum-one n marked (o .at) (o .below) (λ k l d. rw (o .others k l d)) ∙ rw (o .holds)
 
 -- ---- filled, and empty
 
-filled-is : (e : ℕ) → filled e ≡ true → e ≡ empty → ⊥
+pub filled-is : (e : ℕ) → filled e ≡ true → e ≡ empty → ⊥
 unfolding filled
 filled-is e f = eqb-false e empty (not-true (eqb e empty) f)
 
@@ -82,17 +91,17 @@ unfilled-is : (e : ℕ) → filled e ≡ false → e ≡ empty
 unfolding filled
 unfilled-is e f = eqb-true e empty (not-false (eqb e empty) f)
 
-is-filled : (e : ℕ) → (e ≡ empty → ⊥) → filled e ≡ true
+pub is-filled : (e : ℕ) → (e ≡ empty → ⊥) → filled e ≡ true
 unfolding filled
 is-filled e n = rw (ne-eqb e empty n)
 
-is-unfilled : (e : ℕ) → e ≡ empty → filled e ≡ false
+pub is-unfilled : (e : ℕ) → e ≡ empty → filled e ≡ false
 unfolding filled
 is-unfilled e q = rw (eq-eqb e empty q)
 
 -- ---- column kb
 
-record FirstColumn (m : ℕ) (C : ℕ → ℕ) : Type 0 where
+pub record FirstColumn (m : ℕ) (C : ℕ → ℕ) : Type 0 where
   pub only : Only (m - 2) (λ i. filled (C (suc i)))
   pub full : C 0 ≡ empty → ⊥
   pub outer : C 0 ≡ C (m - 1)
@@ -102,7 +111,7 @@ module _ (m : ℕ) (C : ℕ → ℕ) where
   abbrev held : ℕ → Bool
   held i = not (filled (C (suc i))) || eqb (C (suc i)) 0
 
-  first-is : firstColumn m C ≡ true → FirstColumn m C
+  pub first-is : firstColumn m C ≡ true → FirstColumn m C
   unfolding firstColumn filledBetween
   first-is e =
       let four = both (filled (C 0) && filled (C (m - 1)) && eqb (filledBetween m C) 1 && eqb (C 0) (C (m - 1))) (allBelow (m - 2) held) e in
@@ -116,7 +125,7 @@ module _ (m : ℕ) (C : ℕ → ℕ) where
         inner = λ i l f. eqb-true (C (suc i)) 0 (rw f at (all-at (m - 2) held (four .1) i l));
       }
 
-  is-first : FirstColumn m C → firstColumn m C ≡ true
+  pub is-first : FirstColumn m C → firstColumn m C ≡ true
   unfolding firstColumn filledBetween
   is-first f =
       let top = is-filled (C 0) (f .full) in
@@ -150,74 +159,32 @@ module _ (m j : ℕ) (C : ℕ → ℕ) where
   unfolding nextColumn
   next-is e i l = eqb-true (C i) (nextDue j i) (all-at m (λ row. eqb (C row) (nextDue j row)) e i l)
 
-  is-next : ((i : ℕ) → i < m → C i ≡ nextDue j i) → nextColumn m j C ≡ true
-  unfolding nextColumn
-  is-next h = all-of m (λ row. eqb (C row) (nextDue j row)) (λ i l. eq-eqb (C i) (nextDue j i) (h i l))
-
 -- ---- the table
 
 module _ (T : List ℕ) (kb m columns : ℕ) where
-  abbrev pub column : ℕ → ℕ → ℕ
-  column j row = entry T columns row j
-
-  others : (middle : ℕ) → ((k : ℕ) → k < m - 2 → (suc k ≡ middle → ⊥) → filled (column kb (suc k)) ≡ false)
-      → (i : ℕ) → 0 < i → suc i < m → (i ≡ middle → ⊥) → column kb i ≡ empty
+  others : (middle : ℕ) → ((k : ℕ) → k < m - 2 → (suc k ≡ middle → ⊥) → filled (column T columns kb (suc k)) ≡ false)
+      → (i : ℕ) → 0 < i → suc i < m → (i ≡ middle → ⊥) → column T columns kb i ≡ empty
   others middle h zero l o n = absurd (omega arith)
-  others middle h (suc k) l o n = unfilled-is (column kb (suc k)) (h k (omega arith) n)
+  others middle h (suc k) l o n = unfilled-is (column T columns kb (suc k)) (h k (omega arith) n)
 
   pub staircase-is : staircase T kb m columns ≡ true → Staircase T kb m columns
   unfolding staircase
   staircase-is e =
-      let right : ℕ → Bool = λ i. nextColumn m (suc i) (column (kb + suc i)) in
-      let parts = both (firstColumn m (column kb)) (allBelow (m - 1) right) e in
-      let f = first-is m (column kb) (parts .0) in
+      let right : ℕ → Bool = λ i. nextColumn m (suc i) (column T columns (kb + suc i)) in
+      let parts = both (firstColumn m (column T columns kb)) (allBelow (m - 1) right) e in
+      let f = first-is m (column T columns kb) (parts .0) in
       let o = f .only in
-      let next : (i j : ℕ) → i < m → suc j < m → column (kb + suc j) i ≡ nextDue (suc j) i =
-      λ i j l h. next-is m (suc j) (column (kb + suc j)) (all-at (m - 1) right (parts .1) j (omega arith)) i l in
+      let next : (i j : ℕ) → i < m → suc j < m → column T columns (kb + suc j) i ≡ nextDue (suc j) i =
+      λ i j l h. next-is m (suc j) (column T columns (kb + suc j)) (all-at (m - 1) right (parts .1) j (omega arith)) i l in
       record {
         middle = suc (o .at);
         after = omega arith;
         before = omega (arith, o .below);
         filled = f .full;
-        outer = λ i h. ap (column kb) (omega arith) ∙ sym (f .outer);
+        outer = λ i h. ap (column T columns kb) (omega arith) ∙ sym (f .outer);
         inner = f .inner (o .at) (o .below) (o .holds);
         others = others (suc (o .at)) (λ k l n. o .others k l (λ q. n (ap suc q)));
         upper = λ j h. next j j (omega arith) h ∙ due-upper j;
         lower = λ j h. next (suc j) j h h ∙ due-lower j;
         rest = λ i j l h n p. next i j l h ∙ due-rest j i n p;
       }
-
-  module _ (s : Staircase T kb m columns) where
-    middle-only : Only (m - 2) (λ i. filled (column kb (suc i)))
-    middle-only =
-        let at : suc (s .middle - 1) ≡ s .middle = omega (arith, s .after) in
-        let some : column kb (suc (s .middle - 1)) ≡ 0 = ap (column kb) at ∙ s .inner in
-        record {
-          at = s .middle - 1;
-          below = omega (arith, s .after, s .before);
-          holds = is-filled (column kb (suc (s .middle - 1))) (λ q. omega arith);
-          others = λ k l d. is-unfilled (column kb (suc k)) (s .others (suc k) (omega arith) (omega arith) (λ q. d (omega arith)));
-        }
-
-    first : FirstColumn m (column kb)
-    first =
-        record {
-          only = middle-only;
-          full = s .filled;
-          outer = sym (s .outer (m - 1) (omega (arith, s .before)));
-          inner = λ i l f. equal-or (suc i) (s .middle) (λ q. ap (column kb) q ∙ s .inner)
-              (λ n. absurd (filled-is (column kb (suc i)) f (s .others (suc i) (omega arith) (omega arith) n)));
-        }
-
-    pub next-due : (i j : ℕ) → i < m → suc j < m → column (kb + suc j) i ≡ nextDue (suc j) i
-    next-due i j l h =
-        equal-or i j (λ q. ap (column (kb + suc j)) q ∙ s .upper j h ∙ sym (due-upper j) ∙ ap (nextDue (suc j)) (sym q))
-        (λ n. equal-or i (suc j) (λ q. ap (column (kb + suc j)) q ∙ s .lower j h ∙ sym (due-lower j) ∙ ap (nextDue (suc j)) (sym q))
-        (λ o. s .rest i j l h n o ∙ sym (due-rest j i n o)))
-
-    pub is-staircase : staircase T kb m columns ≡ true
-    unfolding staircase
-    is-staircase =
-        let right : ℕ → Bool = λ i. nextColumn m (suc i) (column (kb + suc i)) in
-        rw (is-first m (column kb) first)
-        (all-of (m - 1) right (λ j l. is-next m (suc j) (column (kb + suc j)) (λ i h. next-due i j h (omega arith))))

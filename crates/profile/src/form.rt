@@ -113,33 +113,31 @@ pub fn shape_right(profile: &[u8]) -> bool
     sizes_right(profile)
 }
 
-fn shift_right(z: usize, s: u8) -> bool
+fn shift_right(z: u8, s: u8) -> bool
     ensures { λ r. ⌜ r ≡ shiftRight z s ⌝ }
 {
-    if s == EMPTY {
-        return true;
-    }
-    bits::inner::to_usize(s) < z
+    (s == EMPTY) | (s < z)
 }
 
-fn shifts_right(z: usize, table: &[u8]) -> bool
+// It looks at every entry, with no early way out, so that the loop is straight.
+fn shifts_right(z: u8, table: &[u8]) -> bool
     ensures { λ r. ⌜ r ≡ allBelow (length (now (table .entry))) (λ k. shiftRight z (getD (now (table .entry)) k 0)) ⌝ }
 {
+    let mut right = true;
     let mut k = 0;
     while k < table.len() {
-        if !shift_right(z, table[k]) {
-            return false;
-        }
+        right = right & shift_right(z, table[k]);
         k += 1;
     }
-    true
+    right
 }
 
 fn table_right(profile: &[u8], i: usize) -> bool
     requires { ⌜ (shapeRight (now profile) ≡ true) × (i < t (now profile)) ⌝ }
     ensures { λ r. ⌜ r ≡ tableRight (now (profile .entry)) i ⌝ }
 {
-    shifts_right(parts::z(profile, i), parts::table(profile, i))
+    let z = parts::z(profile, i) as u8;
+    shifts_right(z, parts::table(profile, i))
 }
 
 // The entries of every table.

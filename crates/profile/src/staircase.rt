@@ -1,133 +1,68 @@
-// Whether every table is a staircase with its extension (document 01, "Shelf and profile records"; document 02, CR 3). Of the first m rows each row
-// between is tried as the middle one.
+// Whether every table is a staircase with its extension (document 01, "Shelf and profile records"; document 02, CR 3): of the first m rows column kb,
+// then the columns after it row by row.
 use crate::inner::EMPTY;
 use crate::parts;
 ghost use mathlib.Core.Path.{_≡_};
 ghost use mathlib.Core.Bool.{true, _&&_};
-ghost use Prim.Native.Nat.{_+_, _-_, _<_, _≤_};
+ghost use Prim.Native.Nat.{_+_, _*_, _<_, _≤_};
 ghost use lib.ListN.{length};
-ghost use Rattle.bits.specs.Ranges.{allBelow, anyBelow};
-ghost use Rattle.profile.specs.Staircase.{nextDue, staircase, rowEnds, extensionRow, extended, staircases};
+ghost use Rattle.bits.specs.Ranges.{allBelow};
+ghost use Rattle.profile.specs.Record.{entry};
+ghost use Rattle.profile.specs.Staircase.{firstColumn, staircase, rowEnds, extensionRow, extended, staircases};
 ghost use Rattle.profile.specs.steps.Shape.{shapeRight, Sized, Whole};
-ghost use Rattle.profile.specs.steps.Walk.{firstDue, nextRight, rowRight, stairsAt, emptyFrom};
+ghost use Rattle.profile.specs.steps.Walk.{column, NextFilled, rowRight, emptyFrom, beforeRight, behindRight};
 
 // The shift of column kb in the middle row, and of the columns after it in their two rows; in an extension row, of its own column.
 const MIDDLE: u8 = 0;
 
 const STEP: u8 = 0;
 
-// What column kb is due to hold in a row.
-fn first_due(m: usize, outer: u8, middle: usize, row: usize) -> u8
-    requires { ⌜ row < m ⌝ }
-    ensures { λ r. ⌜ r ≡ firstDue m outer middle row ⌝ }
+// What column kb holds in a row.
+fn first_entry(table: &[u8], kb: usize, columns: usize, row: usize) -> u8
+    requires { ⌜ row * columns + kb < length (now table) ⌝ }
+    ensures { λ r. ⌜ r ≡ entry (now (table .entry)) columns row kb ⌝ }
 {
-    if row == middle {
-        return MIDDLE;
-    }
-    if row == 0 {
-        return outer;
-    }
-    if row + 1 == m {
-        return outer;
-    }
-    EMPTY
+    table[row * columns + kb]
 }
 
-// What the j-th column after it is due to hold.
-fn next_due(j: usize, row: usize) -> u8
-    requires { ⌜ (row ≤ 12) × (0 < j) ⌝ }
-    ensures { λ r. ⌜ r ≡ nextDue j row ⌝ }
+// The first row from `from` on that column kb fills, or the last row.
+fn next_filled(table: &[u8], kb: usize, m: usize, columns: usize, from: usize) -> usize
+    requires { ⌜ Sized (now table) kb m columns × (from < m) ⌝ }
+    ensures { λ r. ⌜ NextFilled (column (now (table .entry)) columns kb) m from r ⌝ }
 {
-    if row + 1 == j {
-        return STEP;
-    }
-    if row == j {
-        return STEP;
-    }
-    EMPTY
-}
-
-// The columns after column kb, in a row.
-fn next_right(table: &[u8], kb: usize, m: usize, columns: usize, row: usize) -> bool
-    requires { ⌜ Sized (now table) kb m columns × (row < m) ⌝ }
-    ensures { λ r. ⌜ r ≡ allBelow (m - 1) (nextRight (now (table .entry)) kb columns row) ⌝ }
-{
-    let first = row * columns + kb + 1;
-    let n = m - 1;
-    let mut j = 0;
-    while j < n {
-        if table[first + j] != next_due(j + 1, row) {
-            return false;
-        }
-        j += 1;
-    }
-    true
-}
-
-fn row_right(table: &[u8], kb: usize, m: usize, columns: usize, middle: usize, row: usize) -> bool
-    requires { ⌜ Sized (now table) kb m columns × (row < m) ⌝ }
-    ensures { λ r. ⌜ r ≡ rowRight (now (table .entry)) kb m columns middle row ⌝ }
-{
-    let at = row * columns + kb;
-    let outer = table[kb];
-    if table[at] != first_due(m, outer, middle, row) {
-        return false;
-    }
-    next_right(table, kb, m, columns, row)
-}
-
-fn rows_right(table: &[u8], kb: usize, m: usize, columns: usize, middle: usize) -> bool
-    requires { ⌜ Sized (now table) kb m columns ⌝ }
-    ensures { λ r. ⌜ r ≡ allBelow m (rowRight (now (table .entry)) kb m columns middle) ⌝ }
-{
-    let mut row = 0;
-    while row < m {
-        if !row_right(table, kb, m, columns, middle, row) {
-            return false;
+    let mut row = from;
+    while row + 1 < m {
+        if first_entry(table, kb, columns, row) != EMPTY {
+            return row;
         }
         row += 1;
     }
-    true
+    row
 }
 
-fn stairs_at(table: &[u8], kb: usize, m: usize, columns: usize, middle: usize) -> bool
-    requires { ⌜ Sized (now table) kb m columns × (middle < m) ⌝ }
-    ensures { λ r. ⌜ r ≡ stairsAt (now (table .entry)) kb m columns middle ⌝ }
-{
-    if middle < 1 {
-        return false;
-    }
-    if m <= middle + 1 {
-        return false;
-    }
-    rows_right(table, kb, m, columns, middle)
-}
-
-fn some_stairs(table: &[u8], kb: usize, m: usize, columns: usize) -> bool
+fn first_right(table: &[u8], kb: usize, m: usize, columns: usize) -> bool
     requires { ⌜ Sized (now table) kb m columns ⌝ }
-    ensures { λ r. ⌜ r ≡ anyBelow m (stairsAt (now (table .entry)) kb m columns) ⌝ }
+    ensures { λ r. ⌜ r ≡ firstColumn m (column (now (table .entry)) columns kb) ⌝ }
 {
-    let mut middle = 0;
-    while middle < m {
-        if stairs_at(table, kb, m, columns, middle) {
-            return true;
-        }
-        middle += 1;
-    }
-    false
-}
-
-fn is_staircase(table: &[u8], kb: usize, m: usize, columns: usize) -> bool
-    requires { ⌜ Sized (now table) kb m columns ⌝ }
-    ensures { λ r. ⌜ r ≡ staircase (now (table .entry)) kb m columns ⌝ }
-{
-    if table[kb] == EMPTY {
+    let outer = first_entry(table, kb, columns, 0);
+    if outer == EMPTY {
         return false;
     }
-    some_stairs(table, kb, m, columns)
+    let middle = next_filled(table, kb, m, columns, 1);
+    if middle + 1 == m {
+        return false;
+    }
+    if first_entry(table, kb, columns, middle) != MIDDLE {
+        return false;
+    }
+    let last = next_filled(table, kb, m, columns, middle + 1);
+    if last + 1 < m {
+        return false;
+    }
+    first_entry(table, kb, columns, last) == outer
 }
 
-// Whether n entries from `from` on are empty.
+// Whether n entries from `from` on are empty: at most 10, too few for a straight loop to pay.
 fn are_empty(table: &[u8], from: usize, n: usize) -> bool
     requires { ⌜ from + n ≤ length (now table) ⌝ }
     ensures { λ r. ⌜ r ≡ allBelow n (emptyFrom (now (table .entry)) from) ⌝ }
@@ -142,13 +77,81 @@ fn are_empty(table: &[u8], from: usize, n: usize) -> bool
     true
 }
 
+// A row's first entries after column kb: empty but for the last of them.
+fn before_right(table: &[u8], first: usize, n: usize) -> bool
+    requires { ⌜ first + n ≤ length (now table) ⌝ }
+    ensures { λ r. ⌜ r ≡ beforeRight (now (table .entry)) first n ⌝ }
+{
+    if n == 0 {
+        return true;
+    }
+    if !are_empty(table, first, n - 1) {
+        return false;
+    }
+    table[first + (n - 1)] == STEP
+}
+
+// The entries behind them: empty but for the first.
+fn behind_right(table: &[u8], own: usize, later: usize) -> bool
+    requires { ⌜ own + later < length (now table) ⌝ }
+    ensures { λ r. ⌜ r ≡ behindRight (now (table .entry)) own later ⌝ }
+{
+    if table[own] != STEP {
+        return false;
+    }
+    are_empty(table, own + 1, later)
+}
+
+// The columns after column kb, in a row.
+fn row_right(table: &[u8], kb: usize, m: usize, columns: usize, row: usize) -> bool
+    requires { ⌜ Sized (now table) kb m columns × (row < m) ⌝ }
+    ensures { λ r. ⌜ r ≡ rowRight (now (table .entry)) kb m columns row ⌝ }
+{
+    let first = row * columns + kb + 1;
+    if !before_right(table, first, row) {
+        return false;
+    }
+    if row + 1 == m {
+        return true;
+    }
+    behind_right(table, first + row, m - (row + 2))
+}
+
+fn rows_right(table: &[u8], kb: usize, m: usize, columns: usize) -> bool
+    requires { ⌜ Sized (now table) kb m columns ⌝ }
+    ensures { λ r. ⌜ r ≡ allBelow m (rowRight (now (table .entry)) kb m columns) ⌝ }
+{
+    let mut row = 0;
+    while row < m {
+        if !row_right(table, kb, m, columns, row) {
+            return false;
+        }
+        row += 1;
+    }
+    true
+}
+
+// The same of a row's extension columns: up to 37, so it looks at each, with no early way out, and the loop is straight.
+fn rest_empty(table: &[u8], from: usize, n: usize) -> bool
+    requires { ⌜ from + n ≤ length (now table) ⌝ }
+    ensures { λ r. ⌜ r ≡ allBelow n (emptyFrom (now (table .entry)) from) ⌝ }
+{
+    let mut empty = true;
+    let mut j = 0;
+    while j < n {
+        empty = empty & (table[from + j] == EMPTY);
+        j += 1;
+    }
+    empty
+}
+
 // A staircase row in the extension columns.
 fn row_ends(table: &[u8], kb: usize, m: usize, x: usize, columns: usize, row: usize) -> bool
     requires { ⌜ Whole (now table) kb m x columns × (row < m) ⌝ }
     ensures { λ r. ⌜ r ≡ rowEnds (now (table .entry)) kb m x columns row ⌝ }
 {
     let first = row * columns + (kb + m);
-    are_empty(table, first, x)
+    rest_empty(table, first, x)
 }
 
 fn rows_end(table: &[u8], kb: usize, m: usize, x: usize, columns: usize) -> bool
@@ -176,7 +179,7 @@ fn extension_row(table: &[u8], kb: usize, m: usize, x: usize, columns: usize, i:
         return false;
     }
     let later = x - (i + 1);
-    are_empty(table, own + 1, later)
+    rest_empty(table, own + 1, later)
 }
 
 fn extension_rows(table: &[u8], kb: usize, m: usize, x: usize, columns: usize) -> bool
@@ -193,24 +196,20 @@ fn extension_rows(table: &[u8], kb: usize, m: usize, x: usize, columns: usize) -
     true
 }
 
-fn is_extended(table: &[u8], kb: usize, m: usize, x: usize, columns: usize) -> bool
+fn is_staircase(table: &[u8], kb: usize, m: usize, x: usize, columns: usize) -> bool
     requires { ⌜ Whole (now table) kb m x columns ⌝ }
-    ensures { λ r. ⌜ r ≡ extended (now (table .entry)) kb m x columns ⌝ }
+    ensures { λ r. ⌜ r ≡ (staircase (now (table .entry)) kb m columns && extended (now (table .entry)) kb m x columns) ⌝ }
 {
+    if !first_right(table, kb, m, columns) {
+        return false;
+    }
+    if !rows_right(table, kb, m, columns) {
+        return false;
+    }
     if !rows_end(table, kb, m, x, columns) {
         return false;
     }
     extension_rows(table, kb, m, x, columns)
-}
-
-fn is_extended_staircase(table: &[u8], kb: usize, m: usize, x: usize, columns: usize) -> bool
-    requires { ⌜ Whole (now table) kb m x columns ⌝ }
-    ensures { λ r. ⌜ r ≡ (staircase (now (table .entry)) kb m columns && extended (now (table .entry)) kb m x columns) ⌝ }
-{
-    if !is_staircase(table, kb, m, columns) {
-        return false;
-    }
-    is_extended(table, kb, m, x, columns)
 }
 
 // Every table of a record whose tables can be read.
@@ -225,7 +224,7 @@ pub fn staircases(profile: &[u8]) -> bool
     let t = parts::t(profile);
     let mut i = 0;
     while i < t {
-        if !is_extended_staircase(parts::table(profile, i), kb, m, x, columns) {
+        if !is_staircase(parts::table(profile, i), kb, m, x, columns) {
             return false;
         }
         i += 1;

@@ -1,19 +1,89 @@
 -- What a search says of the entry, and a lookup inside of the record.
-use mathlib.Core.Path.{_≡_, refl, sym, _∙_}
-use mathlib.Core.Bool.{Bool, true, false}
+use mathlib.Core.Path.{_≡_, refl, sym, ap, _∙_}
+use mathlib.Core.Bool.{Bool, true, false, _&&_}
 use mathlib.Core.List.{List}
-use Prim.Native.Nat.{ℕ, _≤_, _<_}
-use native.Mathlib.Nat.{zero-add}
+use mathlib.Core.Logic.{⊎-elim}
+use Prim.Native.Nat.{ℕ, _+_, _*_, _≤_, _<_}
+use native.Mathlib.Nat.{zero-add, eq-or-lt-of-le}
 use native.Mathlib.Omega.{arith}
 use lib.Dec.{eqb, ltb}
-use borrow.Author.Tests.{lt-ltb, le-ltb, ne-eqb}
+use borrow.Author.Tests.{eqb-true, lt-ltb, le-ltb, eq-eqb, ne-eqb}
+use Rattle.bits.specs.Bits.{AreOctets}
 use Rattle.bits.specs.Numbers.{answered}
 use Rattle.bits.proofs.Answers.{when-done, when-refused}
-use Rattle.bits.proofs.Ranges.{first-some, first-none}
-use Rattle.shelf.specs.Shelf.{count, recordAt, privateShelf, publicShelf}
+use Rattle.bits.proofs.Ranges.{below-or, both, either-way, any-none, first-some, first-none, first-is}
+use Rattle.shelf.specs.Shelf.{count, tenant, profile, recordAt, privateShelf, publicShelf}
 use Rattle.shelf.specs.Lookup.{isEntry, has, entryOf, recordOf, lookupNumber, lookupRecord, into, lookupPlace}
-use Rattle.shelf.specs.steps.Finding.{refusal, entryFound, stretchOf, placeOf, Looked}
-use Rattle.shelf.proofs.WellFormed.{Formed, formed-is, record-within}
+use Rattle.shelf.specs.steps.Walking.{pair, PairsRise}
+use Rattle.shelf.specs.steps.Finding.{Parted, refusal, entryFound, stretchOf, placeOf, Looked}
+use Rattle.shelf.proofs.WellFormed.{Formed, formed-is, record-within, profile-small}
+
+-- ---- half of what is left falls away
+
+module _ (S : List ℕ) (asked : ℕ) (up : PairsRise S) (low high k : ℕ) (h : Parted S asked low high) (l : k < high) where
+  pub parted-low : pair S k < asked → Parted S asked (k + 1) high
+  parted-low m =
+      record {
+        inside = h .inside;
+        below = λ j n.
+            ⊎-elim
+            (λ e. let same : pair S j ≡ pair S k = ap (pair S) e in omega arith)
+            (λ b. omega (arith, up j k b (omega (arith, h .inside)))) (eq-or-lt-of-le (let z : j ≤ k = omega arith in z));
+        others = h .others;
+      }
+
+  pub parted-high : asked ≤ pair S k → Parted S asked low k
+  parted-high m =
+      record {
+        inside = omega (arith, h .inside);
+        below = h .below;
+        others = λ j n b.
+            ⊎-elim
+            (λ e. let same : pair S k ≡ pair S j = ap (pair S) e in omega arith)
+            (λ a. omega (arith, up k j a b)) (eq-or-lt-of-le n);
+      }
+
+-- ---- what is left is the entry, or there is none
+
+module _ (S : List ℕ) (octets : AreOctets S) (t p : ℕ) (short : p < 65536) where
+  asked-is : (k : ℕ) → isEntry S t p k ≡ eqb (pair S k) (t * 65536 + p)
+  unfolding isEntry pair
+  asked-is k =
+      let small = profile-small S octets k in
+      either-way (eqb (tenant S k) t && eqb (profile S k) p) (eqb (pair S k) (t * 65536 + p))
+      (λ e.
+      let parts = both (eqb (tenant S k) t) (eqb (profile S k) p) e in
+      eq-eqb (pair S k) (t * 65536 + p) (omega (arith, eqb-true (tenant S k) t (parts .0), eqb-true (profile S k) p (parts .1))))
+      (λ e.
+      let same = eqb-true (pair S k) (t * 65536 + p) e in
+      rw (eq-eqb (tenant S k) t (omega (arith, same, small)), eq-eqb (profile S k) p (omega (arith, same, small))))
+
+  other : (k : ℕ) → (pair S k ≡ t * 65536 + p → ⊥) → isEntry S t p k ≡ false
+  other k n = asked-is k ∙ ne-eqb (pair S k) (t * 65536 + p) n
+
+  module _ (k : ℕ) (h : Parted S (t * 65536 + p) k k) where
+    pub entry-found : k < count S → pair S k ≡ t * 65536 + p → k ≡ entryOf S t p
+    unfolding entryOf
+    entry-found l e =
+        sym
+        (first-is (count S) (isEntry S t p) k
+        (record {
+          below = l;
+          holds = asked-is k ∙ eq-eqb (pair S k) (t * 65536 + p) e;
+          none = λ j m. other j (λ z. omega (arith, h .below j m));
+        }))
+
+    pub entry-none : PairsRise S → (k < count S → pair S k ≡ t * 65536 + p → ⊥) → count S ≡ entryOf S t p
+    unfolding entryOf
+    entry-none up n = sym (first-none (count S) (isEntry S t p) (any-none (count S) (isEntry S t p) (λ j l. other j (not-here j l))))
+      where
+        not-here : (j : ℕ) → j < count S → pair S j ≡ t * 65536 + p → ⊥
+        not-here j l e =
+            below-or j k
+            (λ m. omega (arith, h .below j m))
+            (λ m. ⊎-elim (λ z. n (omega arith) (ap (pair S) z ∙ e)) (λ b. omega (arith, up k j b l, h .others k (omega arith) (omega arith))) (eq-or-lt-of-le m))
+
+-- ---- what a search says
 
 -- a shelf has the record exactly where the search ends before the count
 pub has-below : (S : List ℕ) (t p : ℕ) → has S t p ≡ ltb (entryOf S t p) (count S)

@@ -1,40 +1,31 @@
 -- What the tests of a shelf say, in the document's order and in the code's.
 use mathlib.Core.Path.{_≡_, refl, sym, ap, subst}
-use mathlib.Core.Bool.{Bool, true, false, _&&_, _||_}
+use mathlib.Core.Bool.{Bool, true, false, cond, _&&_, _||_}
 use mathlib.Core.List.{List}
 use mathlib.Core.Logic.{⊎-elim}
 use Prim.Native.Nat.{ℕ, zero, suc, _+_, _-_, _*_, _≤_, _<_}
 use native.Mathlib.Nat.{eq-or-lt-of-le}
-use native.Mathlib.Numerals.{sub-one}
+use native.Mathlib.Numerals.{add-one}
 use native.Mathlib.Omega.{arith}
 use lib.Dec.{eqb, leb, ltb}
 use lib.ListN.{length}
-use borrow.Author.Tests.{ltb-true, leb-true, eqb-true, le-leb, eq-eqb}
+use borrow.Author.Tests.{ltb-true, leb-true, eqb-true, lt-ltb, le-ltb, le-leb, eq-eqb, ne-eqb}
+use Rattle.bits.specs.Bits.{AreOctets, numberAt}
 use Rattle.bits.specs.Ranges.{allBelow}
-use Rattle.bits.proofs.Ranges.{last-or, below-or, both, all-at, all-of}
+use Rattle.bits.proofs.Ranges.{last-or, below-or, equal-or, both, either-way, all-at, all-of}
 use Rattle.shelf.specs.Shelf.{count, tenant, profile, offset, size, rises, offsetDue, chained, endsRight, tenantRight, wellFormed}
-use Rattle.shelf.specs.steps.Walking.{sizesRight, entryRight, walkRight}
-
--- two tests that hold together are one
-same-test : (a b : Bool) → (a ≡ true → b ≡ true) → (b ≡ true → a ≡ true) → a ≡ b
-same-test true b f g = sym (f refl)
-same-test false true f g = g refl
-same-test false false f g = refl
+use Rattle.shelf.specs.steps.Walking.{sizesRight, tenantsRight, pair, leastPair, PairsRise, entryRight, entriesRight, walkRight}
 
 module _ (S : List ℕ) where
-  -- ---- an entry and the one before it
+  -- ---- what a walk carries from entry to entry
 
-  pub rises-later : (k : ℕ) → (k ≡ 0 → ⊥)
-      → rises S k
-      ≡ (ltb (tenant S (k - 1)) (tenant S k) || (eqb (tenant S (k - 1)) (tenant S k) && ltb (profile S (k - 1)) (profile S k)))
-  unfolding rises
-  rises-later zero n = absurd (n refl)
-  rises-later (suc k) n = rw sub-one
+  pub least-next : (k : ℕ) → leastPair S (k + 1) ≡ pair S k + 1
+  unfolding leastPair
+  least-next k = simp add-one
 
-  pub due-later : (k : ℕ) → (k ≡ 0 → ⊥) → offsetDue S k ≡ offset S (k - 1) + size S (k - 1)
+  pub due-after : (k : ℕ) → offsetDue S (k + 1) ≡ offset S k + size S k
   unfolding offsetDue
-  due-later zero n = absurd (n refl)
-  due-later (suc k) n = rw sub-one
+  due-after k = rw add-one
 
   -- ---- a well-formed shelf
 
@@ -131,61 +122,7 @@ module _ (S : List ℕ) where
         all-of n (λ k. tenantRight private (tenant S k)) (λ k l. f .entries k l .owner),
       )
 
-  -- ---- in the code's order
-
-  pub sizes-are : sizesRight S ≡ true → Sizes
-  unfolding sizesRight
-  sizes-are e =
-      let three = both (leb 2 (length S) && leb (length S) 65535 && leb (count S) 64) (leb (2 + 8 * count S) (length S)) e in
-      let two = both (leb 2 (length S) && leb (length S) 65535) (leb (count S) 64) (three .0) in
-      let one = both (leb 2 (length S)) (leb (length S) 65535) (two .0) in
-      record {
-        short = leb-true (length S) 65535 (one .1);
-        few = leb-true (count S) 64 (two .1);
-        room = leb-true (2 + 8 * count S) (length S) (three .1);
-      }
-
-  entry-is : (private : Bool) (k : ℕ) → entryRight private S k ≡ true → Entry private k
-  unfolding entryRight
-  entry-is private k e =
-      let two = both (tenantRight private (tenant S k) && rises S k) (chained S k) e in
-      let one = both (tenantRight private (tenant S k)) (rises S k) (two .0) in
-      record { owner = one .0; rising = one .1; chain = chain-is k (two .1) }
-
-  walked-formed : (private : Bool) → walkRight private S ≡ true → Formed private
-  unfolding walkRight endsRight
-  walked-formed private e =
-      let two = both (sizesRight S && allBelow (count S) (entryRight private S)) (endsRight S) e in
-      let one = both (sizesRight S) (allBelow (count S) (entryRight private S)) (two .0) in
-      record {
-        sizes = sizes-are (one .0);
-        entries = λ k l. entry-is private k (all-at (count S) (entryRight private S) (one .1) k l);
-        ends = eqb-true (length S) (offsetDue S (count S)) (two .1);
-      }
-
-  entry-right : (private : Bool) (k : ℕ) → Entry private k → entryRight private S k ≡ true
-  unfolding entryRight
-  entry-right private k h = rw (h .owner, h .rising, is-chain k (h .chain))
-
-  formed-walked : (private : Bool) → Formed private → walkRight private S ≡ true
-  unfolding walkRight sizesRight endsRight
-  formed-walked private f =
-      let n = count S in
-      let long : 2 ≤ length S = omega (arith, f .sizes .room) in
-      rw (
-        le-leb 2 (length S) long,
-        le-leb (length S) 65535 (f .sizes .short),
-        le-leb n 64 (f .sizes .few),
-        le-leb (2 + 8 * n) (length S) (f .sizes .room),
-        all-of n (entryRight private S) (λ k l. entry-right private k (f .entries k l)),
-        eq-eqb (length S) (offsetDue S n) (f .ends),
-      )
-
-  pub walk-is : (private : Bool) → walkRight private S ≡ wellFormed private S
-  walk-is private =
-      same-test (walkRight private S) (wellFormed private S) (λ e. is-formed private (walked-formed private e)) (λ e. formed-walked private (formed-is private e))
-
-  -- ---- "Pairs (tenant, profile number) strictly rise", so a pair has one entry at most
+  -- ---- "Pairs (tenant, profile number) strictly rise"
 
   record Below (j k : ℕ) : Type 0 where
     tenants : tenant S j ≤ tenant S k
@@ -215,16 +152,145 @@ module _ (S : List ℕ) where
             omega (arith, a .profiles one, b .profiles two);
       }
 
-  below : (private : Bool) → Formed private → (j k : ℕ) → j < k → k < count S → Below j k
-  below private f j zero h l = absurd (omega arith)
-  below private f j (suc k) h l =
-      let next = below-next k (f .entries (suc k) l .rising) in
-      last-or j k h (λ m. below-later j k (suc k) (below private f j k m (omega arith)) next) (λ e. subst (λ (i : ℕ). Below i (suc k)) (sym e) next)
+  module _ (up : (k : ℕ) → k < count S → rises S k ≡ true) where
+    below : (j k : ℕ) → j < k → k < count S → Below j k
+    below j zero h l = absurd (omega arith)
+    below j (suc k) h l =
+        let next = below-next k (up (suc k) l) in
+        last-or j k h (λ m. below-later j k (suc k) (below j k m (omega arith)) next) (λ e. subst (λ (i : ℕ). Below i (suc k)) (sym e) next)
+
+    tenants-rise : (j k : ℕ) → j ≤ k → k < count S → tenant S j ≤ tenant S k
+    tenants-rise j k h l =
+        ⊎-elim (λ e. let same : tenant S j ≡ tenant S k = ap (tenant S) e in omega arith) (λ m. below j k m l .tenants) (eq-or-lt-of-le h)
+
+    owners : (private : Bool) → tenantsRight private S ≡ true → (k : ℕ) → k < count S → tenantRight private (tenant S k) ≡ true
+    unfolding tenantsRight tenantRight
+    owners true e k l =
+        let first : 1 ≤ tenant S 0 = leb-true 1 (tenant S 0) (rw (ne-eqb (count S) 0 (λ z. omega arith)) at e) in
+        le-leb 1 (tenant S k) (omega (arith, first, tenants-rise 0 k (omega arith) l))
+    owners false e k l =
+        let last : tenant S (count S - 1) ≡ 0 = eqb-true (tenant S (count S - 1)) 0 (rw (ne-eqb (count S) 0 (λ z. omega arith)) at e) in
+        eq-eqb (tenant S k) 0 (omega (arith, last, tenants-rise k (count S - 1) (omega arith) (omega arith)))
+
+  -- ---- in the code's order
+
+  pub sizes-are : sizesRight S ≡ true → Sizes
+  unfolding sizesRight
+  sizes-are e =
+      let three = both (leb 2 (length S) && leb (length S) 65535 && leb (count S) 64) (leb (2 + 8 * count S) (length S)) e in
+      let two = both (leb 2 (length S) && leb (length S) 65535) (leb (count S) 64) (three .0) in
+      let one = both (leb 2 (length S)) (leb (length S) 65535) (two .0) in
+      record {
+        short = leb-true (length S) 65535 (one .1);
+        few = leb-true (count S) 64 (two .1);
+        room = leb-true (2 + 8 * count S) (length S) (three .1);
+      }
+
+  pub entry-is : (k : ℕ) → entryRight S k ≡ true → (rises S k ≡ true) × (offset S k ≡ offsetDue S k)
+  unfolding entryRight
+  entry-is k e =
+      let parts = both (rises S k) (chained S k) e in
+      (parts .0, chain-is k (parts .1))
+
+  passed : allBelow (count S) (entryRight S) ≡ true → (k : ℕ) → k < count S → (rises S k ≡ true) × (offset S k ≡ offsetDue S k)
+  passed e k l = entry-is k (all-at (count S) (entryRight S) e k l)
+
+  walked-formed : (private : Bool) → walkRight private S ≡ true → Formed private
+  unfolding walkRight entriesRight endsRight
+  walked-formed private e =
+      let two = both (sizesRight S && tenantsRight private S) (entriesRight S) e in
+      let one = both (sizesRight S) (tenantsRight private S) (two .0) in
+      let walk = both (allBelow (count S) (entryRight S)) (endsRight S) (two .1) in
+      let right = passed (walk .0) in
+      record {
+        sizes = sizes-are (one .0);
+        entries = λ k l. record { owner = owners (λ j m. right j m .0) private (one .1) k l; rising = right k l .0; chain = right k l .1 };
+        ends = eqb-true (length S) (offsetDue S (count S)) (walk .1);
+      }
+
+  tenants-right : (private : Bool) → Formed private → tenantsRight private S ≡ true
+  unfolding tenantsRight
+  tenants-right private f =
+      equal-or (count S) 0
+      (λ z. rw (eq-eqb (count S) 0 z))
+      (λ n. rw (ne-eqb (count S) 0 n) (f .entries (cond private 0 (count S - 1)) (telling private n) .owner))
+    where
+      telling : (private : Bool) → (count S ≡ 0 → ⊥) → cond private 0 (count S - 1) < count S
+      telling true n = omega arith
+      telling false n = omega arith
+
+  formed-walked : (private : Bool) → Formed private → walkRight private S ≡ true
+  unfolding walkRight sizesRight entriesRight entryRight endsRight
+  formed-walked private f =
+      let n = count S in
+      let long : 2 ≤ length S = omega (arith, f .sizes .room) in
+      rw (
+        le-leb 2 (length S) long,
+        le-leb (length S) 65535 (f .sizes .short),
+        le-leb n 64 (f .sizes .few),
+        le-leb (2 + 8 * n) (length S) (f .sizes .room),
+        tenants-right private f,
+        all-of n (entryRight S) (λ k l. rw (f .entries k l .rising, is-chain k (f .entries k l .chain))),
+        eq-eqb (length S) (offsetDue S n) (f .ends),
+      )
+
+  pub walk-is : (private : Bool) → walkRight private S ≡ wellFormed private S
+  walk-is private =
+      either-way (walkRight private S) (wellFormed private S) (λ e. is-formed private (walked-formed private e)) (λ e. formed-walked private (formed-is private e))
+
+  -- ---- a pair as one number
+
+  module _ (octets : AreOctets S) where
+    number-small : (at : ℕ) → numberAt S at < 65536
+    unfolding numberAt
+    number-small at = omega (arith, octets at, octets (at + 1))
+
+    pub profile-small : (k : ℕ) → profile S k < 65536
+    unfolding profile
+    profile-small k = number-small (4 + 8 * k)
+
+    pub offset-small : (k : ℕ) → offset S k < 65536
+    unfolding offset
+    offset-small k = number-small (6 + 8 * k)
+
+    pair-below : (j k : ℕ) → Below j k → pair S j < pair S k
+    unfolding pair
+    pair-below j k b =
+        equal-or (tenant S j) (tenant S k)
+        (λ e. omega (arith, e, b .profiles e))
+        (λ n. omega (arith, n, b .tenants, profile-small j))
+
+    below-pair : (k : ℕ) → pair S k < pair S (suc k) → rises S (suc k) ≡ true
+    unfolding rises pair
+    below-pair k h =
+        equal-or (tenant S k) (tenant S (suc k))
+        (λ e. rw (le-ltb (tenant S k) (tenant S (suc k)) (omega arith), eq-eqb _ _ e, lt-ltb (profile S k) (profile S (suc k)) (omega arith)))
+        (λ n. rw (lt-ltb (tenant S k) (tenant S (suc k)) (omega (arith, profile-small (suc k)))))
+
+    -- it rises exactly where the pair does
+    rises-carried : (k : ℕ) → rises S k ≡ leb (leastPair S k) (pair S k)
+    unfolding rises leastPair
+    rises-carried zero = sym (le-leb 0 (pair S 0) (omega arith))
+    rises-carried (suc k) =
+        either-way (rises S (suc k)) (leb (suc (pair S k)) (pair S (suc k)))
+        (λ e. le-leb (suc (pair S k)) (pair S (suc k)) (pair-below k (suc k) (below-next k e)))
+        (λ e. below-pair k (leb-true (suc (pair S k)) (pair S (suc k)) e))
+
+    -- the tests of an entry with what is carried to it
+    pub entry-carried : (k : ℕ) → entryRight S k ≡ (leb (leastPair S k) (pair S k) && eqb (offset S k) (offsetDue S k))
+    unfolding entryRight chained
+    entry-carried k = rw (rises-carried k)
+
+    pub pairs-rise : (private : Bool) → Formed private → PairsRise S
+    pairs-rise private f j k h l = pair-below j k (below (λ i m. f .entries i m .rising) j k h l)
+
+  -- ---- a pair has one entry at most
 
   pub one-entry : (private : Bool) → wellFormed private S ≡ true → (j k : ℕ) → j < count S → k < count S
       → tenant S j ≡ tenant S k → profile S j ≡ profile S k → j ≡ k
   one-entry private w j k l m t p =
       let f = formed-is private w in
+      let up : (k : ℕ) → k < count S → rises S k ≡ true = λ k l. f .entries k l .rising in
       below-or j k
-      (λ h. absurd (omega (arith, below private f j k h m .profiles t, p)))
-      (λ h. ⊎-elim sym (λ n. absurd (omega (arith, below private f k j n l .profiles (sym t), p))) (eq-or-lt-of-le h))
+      (λ h. absurd (omega (arith, below up j k h m .profiles t, p)))
+      (λ h. ⊎-elim sym (λ n. absurd (omega (arith, below up k j n l .profiles (sym t), p))) (eq-or-lt-of-le h))

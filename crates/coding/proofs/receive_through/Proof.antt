@@ -49,8 +49,7 @@ size-is c =
     bits-is (profile c) (start c .args .terms .edition) (start c .args .octets) (plan .result) (plan .ensures) (start c .pre .0 .taken)
 
 roomy : (c : tie.Else1) → size c ≤ length (room c)
-unfolding blockBits
-roomy c = omega (arith, size-is c, plan-passed (profile c) (start c .args .terms .edition) (start c .args .octets) (start c .pre .0 .taken) .2, start c .pre .1, c .before .before .before .rebuild-bits .kept)
+roomy c = omega (arith, size-is c, start c .pre .1, c .before .before .before .rebuild-bits .kept)
 
 rebuilt : (c : tie.Else1)
     → (radioBits (profile c) (blockBits (start c .args .octets)) (transported c) (start c .args .terms) (length (received c)) ≡ received c)
@@ -72,7 +71,7 @@ long c = gathered-length (profile c) (blockBits (start c .args .octets)) (start 
 
 -- there is room for the block
 short : (c : tie.Else1) → start c .args .octets ≤ length (now (start c .args .block))
-short c = omega (arith, plan-passed (profile c) (start c .args .terms .edition) (start c .args .octets) (start c .pre .0 .taken) .2, start c .pre .2)
+short c = start c .pre .2
 
 plan-accepted-requires : tie.Need-plan-accepted-requires
 plan-accepted-requires c κs =
@@ -82,7 +81,9 @@ plan-accepted-requires c κs =
 rebuild-bits-requires : tie.Need-rebuild-bits-requires
 rebuild-bits-requires c κs =
     let st = c .before .before .before .before .before .before .before in
-    (record { octets = st .args .octets; receivable = st .pre .0; plan = c .before .plan-accepted .ensures }, st .pre .1)
+    let a = st .args in
+    let plan = c .before .plan-accepted in
+    (record { octets = a .octets; receivable = st .pre .0; plan = plan .ensures }, omega (arith, bits-is (now (a .profile)) (a .terms .edition) (a .octets) (plan .result) (plan .ensures) (st .pre .0 .taken), st .pre .1))
 
 same-length : tie.Need-same-length
 same-length c = search needs

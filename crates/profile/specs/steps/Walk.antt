@@ -1,33 +1,41 @@
--- The staircase as the code walks it: each row between is tried as the middle one, and then row by row. T is a table of
--- `columns` columns.
-use mathlib.Core.Bool.{Bool, cond, not, _&&_, _||_}
+-- The staircase as the code walks it: column kb by its filled rows, and then row by row the columns after it. T is a table of `columns` columns.
+use mathlib.Core.Path.{_≡_}
+use mathlib.Core.Bool.{Bool, true, _&&_}
 use mathlib.Core.List.{List}
-use Prim.Native.Nat.{ℕ, suc, _+_, _-_}
-use lib.Dec.{eqb, leb, ltb}
+use Prim.Native.Nat.{ℕ, zero, suc, _+_, _-_, _≤_, _<_}
+use lib.Dec.{eqb}
 use lib.ListN.{getD}
-use Rattle.bits.specs.Ranges.{allBelow, anyBelow}
+use Rattle.bits.specs.Ranges.{allBelow}
 use Rattle.profile.specs.Record.{entry, empty}
 use Rattle.profile.specs.Staircase.{nextDue}
 
--- what column kb is due to hold in a row, where `outer` is the outer shift and `middle` the row between
-unfoldable pub firstDue : ℕ → ℕ → ℕ → ℕ → ℕ
-firstDue m outer middle row = cond (eqb row middle) 0 (cond (eqb row 0 || eqb (suc row) m) outer empty)
+-- what a column holds in each of its rows
+abbrev pub column : List ℕ → ℕ → ℕ → ℕ → ℕ
+column T columns j row = entry T columns row j
 
--- column kb + j + 1 holds in a row what it is due
+-- r is the first row from `from` on that a column C of m rows fills, or the last row
+pub record NextFilled (C : ℕ → ℕ) (m from r : ℕ) : Type 0 where
+  pub after : from ≤ r
+  pub below : r < m
+  pub none : (k : ℕ) → from ≤ k → k < r → C k ≡ empty
+  pub some : suc r < m → C r ≡ empty → ⊥
+
+-- column kb + j + 1 holds in a row what it is due; and so does each column after column kb
 unfoldable pub nextRight : List ℕ → ℕ → ℕ → ℕ → ℕ → Bool
 nextRight T kb columns row j = eqb (entry T columns row (kb + suc j)) (nextDue (suc j) row)
 
--- a row holds what it is due in column kb and in the columns after it
-unfoldable pub rowRight : List ℕ → ℕ → ℕ → ℕ → ℕ → ℕ → Bool
-rowRight T kb m columns middle row =
-    eqb (entry T columns row kb) (firstDue m (entry T columns 0 kb) middle row) && allBelow (m - 1) (nextRight T kb columns row)
-
-unfoldable pub stairsAt : List ℕ → ℕ → ℕ → ℕ → ℕ → Bool
-stairsAt T kb m columns middle = leb 1 middle && ltb (suc middle) m && allBelow m (rowRight T kb m columns middle)
-
-unfoldable pub walked : List ℕ → ℕ → ℕ → ℕ → Bool
-walked T kb m columns = not (eqb (entry T columns 0 kb) empty) && anyBelow m (stairsAt T kb m columns)
+unfoldable pub rowRight : List ℕ → ℕ → ℕ → ℕ → ℕ → Bool
+rowRight T kb m columns row = allBelow (m - 1) (nextRight T kb columns row)
 
 -- the k-th entry from `from` on is empty
 unfoldable pub emptyFrom : List ℕ → ℕ → ℕ → Bool
 emptyFrom T from k = eqb (getD T (from + k) 0) empty
+
+-- the entries of a row up to its column kb + row: the last of them is 0 and the others are empty
+unfoldable pub beforeRight : List ℕ → ℕ → ℕ → Bool
+beforeRight T first zero = true
+beforeRight T first (suc n) = allBelow n (emptyFrom T first) && eqb (getD T (first + n) 0) 0
+
+-- those behind it: 0 in the place `own`, and so many empty ones
+unfoldable pub behindRight : List ℕ → ℕ → ℕ → Bool
+behindRight T own later = eqb (getD T own 0) 0 && allBelow later (emptyFrom T (own + 1))

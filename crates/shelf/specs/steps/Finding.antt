@@ -1,12 +1,19 @@
--- What a lookup comes to inside: the octets of one shelf from `at` on, and that they are what lookup answers.
+-- What a search comes to, and what a lookup comes to inside: the octets of one shelf from `at` on, and that they are what lookup answers.
 use mathlib.Core.Path.{_≡_}
 use mathlib.Core.Bool.{Bool, false, cond}
 use mathlib.Core.List.{List}
-use Prim.Native.Nat.{ℕ, _+_, _≤_}
+use Prim.Native.Nat.{ℕ, _+_, _≤_, _<_}
 use lib.ListN.{length, take, drop}
-use Rattle.shelf.specs.Shelf.{offset, size}
+use Rattle.shelf.specs.Shelf.{count, offset, size}
 use Rattle.shelf.specs.Lookup.{lookupNumber, lookupRecord, into, lookupPlace}
+use Rattle.shelf.specs.steps.Walking.{pair}
 use Rattle.shelf.specs.declared.inner.Found.{Found}
+
+-- the pairs before entry `low` are below the one that is asked for, and those from entry `high` on are not
+pub record Parted (S : List ℕ) (asked low high : ℕ) : Type 0 where
+  pub inside : high ≤ count S
+  pub below : (j : ℕ) → j < low → pair S j < asked
+  pub others : (j : ℕ) → high ≤ j → j < count S → asked ≤ pair S j
 
 unfoldable pub refusal : ℕ → Found
 refusal n = record { number = n; own = false; at = 0; size = 0 }

@@ -160,7 +160,7 @@ lay-requires c κs = let l = c .before .before .before .before .before .before .
     let mine = share-is R (a .plan) (a .terms) k (length s) (i .r) (e .result .0) (ap (λ (x : CodedBits). x .0) (e .ensures)) in
     let fits = share-fits R (a .plan) (a .terms) k (length s) given (i .r) (i .at) (e .result .0) order (i .inv .2 .stands) mine in (
       omega (arith, carried-room R (a .plan) k (i .r) (own .result) (own .ensures), word-room R (a .plan) k, c .before .before .before .before .before .is-received .kept .1 .1 .1 .1 .1 .1 .0, i .inv .1, st .pre .2),
-      omega (arith, own-fits R (a .plan) k (i .r) (i .start) (own .result) order (i .inv .2 .starts) (own .ensures), k .cut .bits-high, i .inv .2 .same, st .pre .3),
+      omega (arith, own-fits R (a .plan) k (i .r) (i .start) (own .result) order (i .inv .2 .starts) (own .ensures), i .inv .2 .same, st .pre .3),
     )
 
 add-start : tie.Need-add-start Inv-loop μ-loop

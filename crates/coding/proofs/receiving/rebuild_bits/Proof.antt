@@ -20,18 +20,18 @@ start-requires c κs =
     let st = c .before .before .before .before in
     (record { edition = st .args .terms .edition; of = record { octets = st .pre .0 .octets; taken = st .pre .0 .receivable .taken; plan = st .pre .0 .plan } }, omega (arith, versioned _ _ (st .pre .0 .receivable .version)))
 
-array-borrow-prefix-word : tie.Need-array-borrow-prefix-word
-array-borrow-prefix-word c = c .before .size .ensures .1
+array-borrow-prefix-few : tie.Need-array-borrow-prefix-few
+array-borrow-prefix-few c = search needs
 
 slice-aggregate-rebuild : tie.Need-slice-aggregate-rebuild
-slice-aggregate-rebuild c = sym (length-take-le {A = ℕ} _ (replicate 4860 0) (c .before .before .size .ensures .1))
+slice-aggregate-rebuild c = sym (length-take-le {A = ℕ} _ (replicate 1944 0) (omega arith))
 
 rebuild-requires : tie.Need-rebuild-requires
 rebuild-requires c κs =
-    let st = c .before .before .before .before .before .before .before in
+    let st = c .before .before .before .before .before .before .before .before in
     let a = st .args in
-    let size = c .before .before .before .size .ensures in
-    (st .pre .0, start-is (now (a .profile)) (a .plan) (a .terms) (fields (now (a .profile)) (a .terms) (now (a .bits)) (a .plan) (st .pre .0)) _ (c .before .before .start .ensures .0), length-take-le {A = ℕ} _ (replicate 4860 0) (size .1) ∙ size .0, st .pre .1)
+    let size = c .before .before .before .before .size .ensures in
+    (st .pre .0, start-is (now (a .profile)) (a .plan) (a .terms) (fields (now (a .profile)) (a .terms) (now (a .bits)) (a .plan) (st .pre .0)) _ (c .before .before .before .start .ensures .0), length-take-le {A = ℕ} _ (replicate 1944 0) (omega arith) ∙ size .0, st .pre .1)
 
 same-length : tie.Need-same-length
 same-length c = search needs
@@ -39,5 +39,38 @@ same-length c = search needs
 returns : tie.Need-returns
 returns c = c .before .before .before .rebuild .ensures
 
+array-borrow-prefix-many : tie.Need-array-borrow-prefix-many
+array-borrow-prefix-many c = c .before .before .size .ensures .1
+
+slice-aggregate-rebuild-2 : tie.Need-slice-aggregate-rebuild-2
+slice-aggregate-rebuild-2 c = sym (length-take-le {A = ℕ} _ (replicate 4860 0) (c .before .before .before .size .ensures .1))
+
+rebuild-requires-2 : tie.Need-rebuild-requires-2
+rebuild-requires-2 c κs =
+    let st = c .before .before .before .before .before .before .before .before in
+    let a = st .args in
+    let size = c .before .before .before .before .size .ensures in
+    (st .pre .0, start-is (now (a .profile)) (a .plan) (a .terms) (fields (now (a .profile)) (a .terms) (now (a .bits)) (a .plan) (st .pre .0)) _ (c .before .before .before .start .ensures .0), length-take-le {A = ℕ} _ (replicate 4860 0) (size .1) ∙ size .0, st .pre .1)
+
+same-length-2 : tie.Need-same-length-2
+same-length-2 c = search needs
+
+returns-2 : tie.Need-returns-2
+returns-2 c = c .before .before .before .rebuild2 .ensures
+
 pub rebuild-bits-spec : {M : Type 1} → statement M
-rebuild-bits-spec = tie.close (tie.spec size-requires start-requires array-borrow-prefix-word slice-aggregate-rebuild rebuild-requires same-length returns)
+rebuild-bits-spec =
+    tie.close
+    (tie.spec
+    size-requires
+    start-requires
+    array-borrow-prefix-few
+    slice-aggregate-rebuild
+    rebuild-requires
+    same-length
+    returns
+    array-borrow-prefix-many
+    slice-aggregate-rebuild-2
+    rebuild-requires-2
+    same-length-2
+    returns-2)

@@ -4,14 +4,14 @@ use Prim.Native.Nat.{_+_, _-_, _*_, _≤_}
 use native.Mathlib.Nat.{mul-le-mul}
 use native.Mathlib.Omega.{arith}
 use borrow.Author.Needs.{needs}
-use Rattle.parity.specs.steps.Runs.{Sums}
+use Rattle.parity.specs.steps.Runs.{lanes, Sums}
 use Rattle.parity.proofs.Columns.{group-in, group-next, sums-row, sums-column}
 use Rattle.parity.proofs.sums.add_column.Statement.{statement}
 use Rattle.parity.proofs.sums.add_column.Tie as tie
 
 abbrev Inv-loop : tie.InvT-loop
 Inv-loop table rows columns z j word g sums₀ at₀ e₀ i₀ sums at e i =
-    Sums table rows columns z word j i sums × (i ≤ rows) × (at ≡ i * z) × (e ≡ i * columns + j)
+    Sums table rows columns z word j i sums × (i ≤ rows) × (at ≡ i * lanes) × (e ≡ i * columns + j)
 
 abbrev μ-loop : tie.MeasureT-loop
 μ-loop table rows columns z j word g sums₀ at₀ e₀ i₀ sums at e i = rows - i
@@ -26,7 +26,7 @@ double-requires c κs =
     let st = c .before .before .before .before .before in
     let shape = st .pre .0 .shape in
     let room = group-in (st .args .j) (st .args .columns) (st .args .z) (st .pre .1) in
-    (shape .z-some, omega (arith, room, st .pre .0 .long), omega (arith, shape .z-most, st .pre .2), st .pre .3)
+    (shape .z-some, shape .z-most, omega (arith, room, st .pre .0 .long), st .pre .2, st .pre .3)
 
 loop-holds : tie.Need-loop-holds Inv-loop μ-loop
 loop-holds c = (c .before .before .before .before .before .before .before .before .pre .0 .sums, search needs, search needs, search needs)
@@ -42,8 +42,9 @@ add-entry-requires c κs =
     let l = c .before .before .before .before .loop in
     let d = c .before .before .before .before .before .before .before .double in (
       st .pre .0 .shape .shifts (l .e),
-      omega (arith, st .pre .0 .shape .z-most, st .pre .2, d .kept .1 .1 .1 .0),
-      omega (arith, group-in (l .i) (st .args .rows) (st .args .z) (search needs), l .inv .2, l .inv .0 .size),
+      st .pre .0 .shape .z-most,
+      omega (arith, st .pre .2, d .kept .1 .1 .1 .0),
+      omega (arith, l .inv .2, l .inv .0 .size),
       d .ensures .bits,
       l .inv .0 .bits,
     )
@@ -52,7 +53,7 @@ add-at : tie.Need-add-at Inv-loop μ-loop
 add-at c =
     let st = c .before .before .before .before .before .before .before .before .before .before .before .before .before .before .before .before in
     let l = c .before .before .before .before .before .before .before .loop in
-    omega (arith, group-in (l .i) (st .args .rows) (st .args .z) (search needs), l .inv .2, mul-le-mul (st .pre .0 .shape .rows-most) (st .pre .0 .shape .z-most))
+    omega (arith, l .inv .2, st .pre .0 .shape .rows-most)
 
 add-e : tie.Need-add-e Inv-loop μ-loop
 add-e c =
@@ -74,7 +75,7 @@ loop-again c =
     let l = u .loop in (
       sums-row _ _ _ _ _ (st .pre .0 .shape) (c .before .before .before .before .before .before .before .before .before .before .double .ensures) (search needs) (search needs) (l .inv .2) (l .inv .3) (l .inv .0) (c .before .before .add-entry .ensures),
       search needs,
-      omega (arith, group-next (l .i) (st .args .z), l .inv .2),
+      omega (arith, l .inv .2),
       omega (arith, group-next (l .i) (st .args .columns), l .inv .3),
     )
 

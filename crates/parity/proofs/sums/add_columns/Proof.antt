@@ -13,13 +13,13 @@ use Rattle.parity.proofs.sums.add_columns.Tie as tie
 
 abbrev Inv-loop : tie.InvT-loop
 Inv-loop table rows columns z from to word sums₀ g₀ j₀ sums g j =
-    (j ≤ to) × (length g ≡ 162) × AreBits g × Sums table rows columns z word j 0 sums
+    (j ≤ to) × (length g ≡ 192) × AreBits g × Sums table rows columns z word j 0 sums
 
 abbrev μ-loop : tie.MeasureT-loop
 μ-loop table rows columns z from to word sums₀ g₀ j₀ sums g j = to - j
 
 loop-holds : tie.Need-loop-holds Inv-loop μ-loop
-loop-holds c = (c .before .before .before .pre .1, refl, bits-zeros 162, c .before .before .before .pre .0 .sums)
+loop-holds c = (c .before .before .before .pre .1, refl, bits-zeros 192, c .before .before .before .pre .0 .sums)
 
 slice-aggregate-add-column : tie.Need-slice-aggregate-add-column Inv-loop μ-loop
 slice-aggregate-add-column c = sym (c .before .before .loop .inv .1)

@@ -1,40 +1,36 @@
--- `profile::form::shifts_right` meets its contract. The loop's invariant: every entry passed is right.
-use mathlib.Core.Path.{_≡_, sym, _∙_}
-use mathlib.Core.Bool.{true, false}
-use Prim.Native.Nat.{ℕ, _-_, _≤_, _<_}
+-- `profile::form::shifts_right` meets its contract. The loop's invariant: `right` says whether every entry passed is right.
+use mathlib.Core.Path.{_≡_, ap, _∙_}
+use mathlib.Core.Bool.{Bool}
+use mathlib.Core.List.{List}
+use Prim.Native.Nat.{ℕ, _-_, _≤_}
 use native.Mathlib.Omega.{arith}
 use lib.ListN.{length, getD}
 use denote.Ref.{now}
-use borrow.Author.Count.{below-more}
 use borrow.Author.Needs.{needs}
-use borrow.Author.Tests.{not-true, not-false}
-use Rattle.bits.proofs.Ranges.{all-of, all-fails}
-use Rattle.profile.specs.Record.{z, table, shiftRight}
+use Rattle.bits.specs.Ranges.{allBelow}
+use Rattle.profile.specs.Record.{shiftRight}
+use Rattle.profile.proofs.Shape.{all-none, all-more}
 use Rattle.profile.proofs.form.shifts_right.Statement.{statement}
 use Rattle.profile.proofs.form.shifts_right.Tie as tie
 
+-- the test of an entry
+abbrev passes : ℕ → List ℕ → ℕ → Bool
+passes z T k = shiftRight z (getD T k 0)
+
 abbrev Inv-loop : tie.InvT-loop
-Inv-loop z table k₀ k = (k ≤ length table) × ((j : ℕ) → j < k → shiftRight z (getD table j 0) ≡ true)
+Inv-loop z table right₀ k₀ right k = (k ≤ length table) × (right ≡ allBelow k (passes z table))
 
 abbrev μ-loop : tie.MeasureT-loop
-μ-loop z table k₀ k = length table - k
+μ-loop z table right₀ k₀ right k = length table - k
 
 loop-holds : tie.Need-loop-holds Inv-loop μ-loop
-loop-holds c = (search needs, λ j l. absurd (omega arith))
+loop-holds c = (search needs, all-none (passes (c .before .args .z) (now (c .before .args .table))))
 
 shared-slice-read-shift-right : tie.Need-shared-slice-read-shift-right Inv-loop μ-loop
 shared-slice-read-shift-right c = search needs
 
 shift-right-requires : tie.Need-shift-right-requires Inv-loop μ-loop
 shift-right-requires c κs = search needs
-
-returns : tie.Need-returns Inv-loop μ-loop
-returns c =
-    let a = c .before .before .before .before .before .before .args in
-    let T = now (a .table) in
-    let k = c .before .before .before .before .loop .k in
-    let wrong : shiftRight (a .z) (getD T k 0) ≡ false = sym (c .before .shift-right .ensures) ∙ not-true _ (c .if1 .taken) in
-    sym (all-fails (length T) (λ j. shiftRight (a .z) (getD T j 0)) k (search needs) wrong)
 
 add-k : tie.Need-add-k Inv-loop μ-loop
 add-k c = search needs
@@ -44,17 +40,14 @@ loop-less c = search needs
 
 loop-again : tie.Need-loop-again Inv-loop μ-loop
 loop-again c =
-    let a = c .before .before .before .before .before .before .args in
-    let T = now (a .table) in
-    let l = c .before .before .before .before .loop in
-    let right : shiftRight (a .z) (getD T (l .k) 0) ≡ true = sym (c .before .shift-right .ensures) ∙ not-false _ (c .if1 .left) in
-    (search needs, below-more (λ (j : ℕ). shiftRight (a .z) (getD T j 0) ≡ true) (l .k) (l .inv .1) right)
+    let a = c .before .before .before .before .before .args in
+    let l = c .before .before .before .loop in
+    (search needs, all-more (passes (a .z) (now (a .table))) (l .k) (l .inv .1) (c .shift-right .ensures))
 
-returns-2 : tie.Need-returns-2 Inv-loop μ-loop
-returns-2 c =
+returns : tie.Need-returns Inv-loop μ-loop
+returns c =
     let a = c .before .before .before .args in
-    let T = now (a .table) in
-    sym (all-of (length T) (λ j. shiftRight (a .z) (getD T j 0)) (λ j l. c .before .loop .inv .1 j (omega arith)))
+    c .before .loop .inv .1 ∙ ap (λ (n : ℕ). allBelow n (passes (a .z) (now (a .table)))) (omega arith)
 
 pub shifts-right-spec : {M : Type 1} → statement M
 shifts-right-spec =
@@ -65,8 +58,7 @@ shifts-right-spec =
     loop-holds
     shared-slice-read-shift-right
     shift-right-requires
-    returns
     add-k
     loop-less
     loop-again
-    returns-2)
+    returns)

@@ -1,4 +1,5 @@
 -- `profile::form::table_right` meets its contract.
+use native.Mathlib.Omega.{arith}
 use denote.Ref.{now}
 use borrow.Author.Needs.{needs}
 use Rattle.profile.proofs.Shape.{shape-is, table-long, table-test}
@@ -7,6 +8,11 @@ use Rattle.profile.proofs.form.table_right.Tie as tie
 
 z-requires : tie.Need-z-requires
 z-requires c κs = shape-is (now (c .before .args .profile)) (c .before .pre .0) .pair (c .before .args .i) (c .before .pre .1)
+
+cast-z : tie.Need-cast-z
+cast-z c =
+    let s = c .before .before in
+    omega (arith, shape-is (now (s .args .profile)) (s .pre .0) .size (s .args .i) (s .pre .1) .z-high)
 
 table-requires : tie.Need-table-requires
 table-requires c κs = search needs
@@ -23,4 +29,4 @@ returns c =
     cc (table-test R (a .i) (u .before .z .result) (now (u .table .result)) (u .table .ensures .same) (u .before .z .ensures .0) long)
 
 pub table-right-spec : {M : Type 1} → statement M
-table-right-spec = tie.close (tie.spec z-requires table-requires shifts-right-requires returns)
+table-right-spec = tie.close (tie.spec z-requires cast-z table-requires shifts-right-requires returns)

@@ -42,17 +42,17 @@ add-later c = search needs
 sub-later : tie.Need-sub-later
 sub-later c = search needs
 
-add-are-empty : tie.Need-add-are-empty
-add-are-empty c = omega (arith, inside (c .before .before .before), c .before .before .before .pre .1)
+add-rest-empty : tie.Need-add-rest-empty
+add-rest-empty c = omega (arith, inside (c .before .before .before), c .before .before .before .pre .1)
 
-are-empty-requires : tie.Need-are-empty-requires
-are-empty-requires c κs = omega (arith, inside (c .before .before .before), c .before .before .before .pre .1)
+rest-empty-requires : tie.Need-rest-empty-requires
+rest-empty-requires c κs = omega (arith, inside (c .before .before .before), c .before .before .before .pre .1)
 
 returns-2 : tie.Need-returns-2
 returns-2 c =
     let a = c .before .before .before .before .args in
     extension-second (now (a .table)) (a .kb) (a .m) (a .x) (a .columns) (a .i) (c .before .before .before .before .pre .1) (omega arith) (c .before .if1 .left)
-    (c .are-empty .ensures) (omega arith) (omega arith)
+    (c .rest-empty .ensures) (omega arith) (omega arith)
 
 pub extension-row-spec : {M : Type 1} → statement M
 extension-row-spec =
@@ -66,6 +66,6 @@ extension-row-spec =
     returns
     add-later
     sub-later
-    add-are-empty
-    are-empty-requires
+    add-rest-empty
+    rest-empty-requires
     returns-2)

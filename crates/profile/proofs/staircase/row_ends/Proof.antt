@@ -22,11 +22,11 @@ add-first c = omega (arith, inside (c .before))
 add-first-2 : tie.Need-add-first-2
 add-first-2 c = omega (arith, inside (c .before))
 
-are-empty-requires : tie.Need-are-empty-requires
-are-empty-requires c κs = omega (arith, inside (c .before))
+rest-empty-requires : tie.Need-rest-empty-requires
+rest-empty-requires c κs = omega (arith, inside (c .before))
 
 returns : tie.Need-returns
-returns c = ends-at _ _ _ _ _ _ (c .are-empty .ensures) (omega arith) (omega arith)
+returns c = ends-at _ _ _ _ _ _ (c .rest-empty .ensures) (omega arith) (omega arith)
 
 pub row-ends-spec : {M : Type 1} → statement M
-row-ends-spec = tie.close (tie.spec mul-first add-first add-first-2 are-empty-requires returns)
+row-ends-spec = tie.close (tie.spec mul-first add-first add-first-2 rest-empty-requires returns)

@@ -1,68 +1,77 @@
 -- `profile::staircase::row_right` meets its contract.
-use mathlib.Core.Path.{_≡_, ap, sym, _∙_}
-use mathlib.Core.Bool.{true, false}
-use Prim.Native.Nat.{_+_, _*_, _<_}
+use mathlib.Core.Path.{sym, _∙_}
+use Prim.Native.Nat.{_+_, _*_, _≤_}
 use native.Mathlib.Omega.{arith}
-use lib.Dec.{eqb}
-use lib.ListN.{length, getD}
+use lib.ListN.{length}
 use denote.Ref.{now}
 use borrow.Author.Needs.{needs}
-use borrow.Author.Tests.{eq-eqb, ne-eqb}
-use Rattle.profile.specs.steps.Walk.{firstDue}
-use Rattle.profile.proofs.Walk.{row-inside, row-at}
+use borrow.Author.Tests.{not-true, not-false}
+use Rattle.profile.proofs.Walk.{row-stands, row-first, row-last, row-second}
 use Rattle.profile.proofs.staircase.row_right.Statement.{statement}
 use Rattle.profile.proofs.staircase.row_right.Tie as tie
 
-place : (c : tie.Start) → c .args .row * c .args .columns + c .args .kb < length (now (c .args .table))
-place c =
-    let a = c .args in
-    omega (arith, c .pre .0 .size, row-inside (a .m) (a .columns) (a .row) (a .kb) (c .pre .1) (omega (arith, c .pre .0 .wide, c .pre .0 .m-low)))
+-- the row stands in the table
+place : (c : tie.Start) → c .args .row * c .args .columns + (c .args .kb + c .args .m) ≤ length (now (c .args .table))
+place c = row-stands (c .pre .0) (c .args .row) (c .pre .1)
 
-mul-at : tie.Need-mul-at
-mul-at c = omega (arith, place (c .before), c .before .good)
+mul-first : tie.Need-mul-first
+mul-first c = omega (arith, place (c .before), c .before .good)
 
-add-at : tie.Need-add-at
-add-at c = omega (arith, place (c .before), c .before .good)
+add-first : tie.Need-add-first
+add-first c = omega (arith, place (c .before), c .before .good)
 
-shared-slice-read-outer : tie.Need-shared-slice-read-outer
-shared-slice-read-outer c = omega (arith, place (c .before .before))
+add-first-2 : tie.Need-add-first-2
+add-first-2 c = omega (arith, place (c .before), c .before .good, c .before .pre .1)
 
-shared-slice-read-if1 : tie.Need-shared-slice-read-if1
-shared-slice-read-if1 c = omega (arith, place (c .before .before .before))
-
-first-due-requires : tie.Need-first-due-requires
-first-due-requires c κs = search needs
+before-right-requires : tie.Need-before-right-requires
+before-right-requires c κs = omega (arith, place (c .before), c .before .pre .1)
 
 returns : tie.Need-returns
 returns c =
-    let a = c .before .before .before .before .before .args in
-    let T = now (a .table) in
-    let at = a .row * a .columns + a .kb in
-    let wrong : eqb (getD T at 0) (firstDue (a .m) (getD T (a .kb) 0) (a .middle) (a .row)) ≡ false =
-    ap (eqb (getD T at 0)) (sym (c .before .first-due .ensures)) ∙ ne-eqb _ _ (c .if1 .taken) in
-    rw (row-at T (a .kb) (a .columns) (a .row) (a .m) (a .middle), wrong)
+    let a = c .before .before .before .args in
+    row-first (now (a .table)) (a .kb) (a .columns) (a .m) (a .row) (c .before .before .before .pre .1)
+    (sym (c .before .before-right .ensures) ∙ not-true _ (c .if1 .taken))
 
-next-right-requires : tie.Need-next-right-requires
-next-right-requires c κs = search needs
+add-if2 : tie.Need-add-if2
+add-if2 c = search needs
 
 returns-2 : tie.Need-returns-2
 returns-2 c =
-    let a = c .before .before .before .before .before .before .args in
-    let T = now (a .table) in
-    let at = a .row * a .columns + a .kb in
-    let right : eqb (getD T at 0) (firstDue (a .m) (getD T (a .kb) 0) (a .middle) (a .row)) ≡ true =
-    ap (eqb (getD T at 0)) (sym (c .before .before .first-due .ensures)) ∙ eq-eqb _ _ (c .before .if1 .left) in
-    rw (row-at T (a .kb) (a .columns) (a .row) (a .m) (a .middle), right) (c .next-right .ensures)
+    let a = c .before .before .before .before .args in
+    row-last (now (a .table)) (a .kb) (a .columns) (a .m) (a .row) (omega arith)
+    (sym (c .before .before .before-right .ensures) ∙ not-false _ (c .before .if1 .left))
+
+add-behind-right : tie.Need-add-behind-right
+add-behind-right c = omega (arith, place (c .before .before .before .before), c .before .before .before .before .good, c .before .before .before .before .pre .1)
+
+add-behind-right-2 : tie.Need-add-behind-right-2
+add-behind-right-2 c = search needs
+
+sub-behind-right : tie.Need-sub-behind-right
+sub-behind-right c = search needs
+
+behind-right-requires : tie.Need-behind-right-requires
+behind-right-requires c κs = omega (arith, place (c .before .before .before .before), c .before .before .before .before .pre .1, c .if2 .left)
+
+returns-3 : tie.Need-returns-3
+returns-3 c =
+    let a = c .before .before .before .before .before .args in
+    row-second (now (a .table)) (a .kb) (a .columns) (a .m) (a .row) (omega (arith, c .before .before .before .before .before .pre .1, c .before .if2 .left))
+    (sym (c .before .before .before .before-right .ensures) ∙ not-false _ (c .before .before .if1 .left)) (c .behind-right .ensures)
 
 pub row-right-spec : {M : Type 1} → statement M
 row-right-spec =
     tie.close
     (tie.spec
-    mul-at
-    add-at
-    shared-slice-read-outer
-    shared-slice-read-if1
-    first-due-requires
+    mul-first
+    add-first
+    add-first-2
+    before-right-requires
     returns
-    next-right-requires
-    returns-2)
+    add-if2
+    returns-2
+    add-behind-right
+    add-behind-right-2
+    sub-behind-right
+    behind-right-requires
+    returns-3)

@@ -13,10 +13,10 @@ use Rattle.profile.proofs.staircase.rows_right.Statement.{statement}
 use Rattle.profile.proofs.staircase.rows_right.Tie as tie
 
 abbrev Inv-loop : tie.InvT-loop
-Inv-loop table kb m columns middle row₀ row = (row ≤ m) × ((k : ℕ) → k < row → rowRight table kb m columns middle k ≡ true)
+Inv-loop table kb m columns row₀ row = (row ≤ m) × ((k : ℕ) → k < row → rowRight table kb m columns k ≡ true)
 
 abbrev μ-loop : tie.MeasureT-loop
-μ-loop table kb m columns middle row₀ row = m - row
+μ-loop table kb m columns row₀ row = m - row
 
 loop-holds : tie.Need-loop-holds Inv-loop μ-loop
 loop-holds c = (search needs, λ k l. absurd (omega arith))
@@ -27,7 +27,7 @@ row-right-requires c κs = search needs
 returns : tie.Need-returns Inv-loop μ-loop
 returns c =
     let a = c .before .before .before .before .before .args in
-    let right = rowRight (now (a .table)) (a .kb) (a .m) (a .columns) (a .middle) in
+    let right = rowRight (now (a .table)) (a .kb) (a .m) (a .columns) in
     let row = c .before .before .before .loop .row in
     let wrong : right row ≡ false = sym (c .before .row-right .ensures) ∙ not-true _ (c .if1 .taken) in
     sym (all-fails (a .m) right row (search needs) wrong)
@@ -41,7 +41,7 @@ loop-less c = search needs
 loop-again : tie.Need-loop-again Inv-loop μ-loop
 loop-again c =
     let a = c .before .before .before .before .before .args in
-    let right = rowRight (now (a .table)) (a .kb) (a .m) (a .columns) (a .middle) in
+    let right = rowRight (now (a .table)) (a .kb) (a .m) (a .columns) in
     let l = c .before .before .before .loop in
     let here : right (l .row) ≡ true = sym (c .before .row-right .ensures) ∙ not-false _ (c .if1 .left) in
     (search needs, below-more (λ (k : ℕ). right k ≡ true) (l .row) (l .inv .1) here)
@@ -49,7 +49,7 @@ loop-again c =
 returns-2 : tie.Need-returns-2 Inv-loop μ-loop
 returns-2 c =
     let a = c .before .before .before .args in
-    sym (all-of (a .m) (rowRight (now (a .table)) (a .kb) (a .m) (a .columns) (a .middle)) (λ k l. c .before .loop .inv .1 k (omega arith)))
+    sym (all-of (a .m) (rowRight (now (a .table)) (a .kb) (a .m) (a .columns)) (λ k l. c .before .loop .inv .1 k (omega arith)))
 
 pub rows-right-spec : {M : Type 1} → statement M
 rows-right-spec =

@@ -55,8 +55,8 @@ same : (c : tie.After-columns Inv-loop μ-loop) (T : List ℕ)
     (x (now (c .before .before .before .before .before .args .profile))) (columns (now (c .before .before .before .before .before .args .profile)))
 same c T = rw (c .before .before .before .kb .ensures .0, c .before .before .m .ensures .0, c .before .x .ensures .0, c .columns .ensures .0)
 
-is-extended-staircase-requires : tie.Need-is-extended-staircase-requires Inv-loop μ-loop
-is-extended-staircase-requires c κs =
+is-staircase-requires : tie.Need-is-staircase-requires Inv-loop μ-loop
+is-staircase-requires c κs =
     let u = c .before .before .before .before in
     rw (u .before .before .before .kb .ensures .0, u .before .before .m .ensures .0, u .before .x .ensures .0, u .columns .ensures .0) (c .table .ensures .whole)
 
@@ -66,7 +66,7 @@ returns c =
     let u = c .before .before .before .before .before .before in
     let R = now (u .before .before .before .before .before .args .profile) in
     let i = c .before .before .before .before .loop .i in
-    let call = c .before .is-extended-staircase in
+    let call = c .before .is-staircase in
     let test : List ℕ → Bool = λ T. right T (u .before .before .before .kb .result) (u .before .before .m .result) (u .before .x .result) (u .columns .result) in
     let wrong : test (table R i) ≡ false = ap test (sym (c .before .before .table .ensures .same)) ∙ sym (call .ensures) ∙ not-true _ (c .if1 .taken) in
     let each : ℕ → Bool = λ j. right (table R j) (kb R) (m R) (x R) (columns R) in
@@ -83,7 +83,7 @@ loop-again c =
     let u = c .before .before .before .before .before .before in
     let R = now (u .before .before .before .before .before .args .profile) in
     let l = c .before .before .before .before .loop in
-    let call = c .before .is-extended-staircase in
+    let call = c .before .is-staircase in
     let test : List ℕ → Bool = λ T. right T (u .before .before .before .kb .result) (u .before .before .m .result) (u .before .x .result) (u .columns .result) in
     let here : test (table R (l .i)) ≡ true = ap test (sym (c .before .before .table .ensures .same)) ∙ sym (call .ensures) ∙ not-false _ (c .if1 .left) in
     (search needs, below-more (λ (j : ℕ). test (table R j) ≡ true) (l .i) (l .inv .1) here)
@@ -108,7 +108,7 @@ staircases-spec =
     t-requires
     loop-holds
     table-requires
-    is-extended-staircase-requires
+    is-staircase-requires
     returns
     add-i
     loop-less

@@ -6,8 +6,9 @@ use native.Mathlib.Omega.{arith}
 use denote.Ref.{now}
 use borrow.Author.Needs.{needs}
 use Rattle.shelf.specs.Shelf.{count}
+use Rattle.shelf.specs.steps.Walking.{PairsRise}
 use Rattle.shelf.specs.steps.Finding.{Looked}
-use Rattle.shelf.proofs.WellFormed.{Sizes, formed-is}
+use Rattle.shelf.proofs.WellFormed.{Sizes, formed-is, pairs-rise}
 use Rattle.shelf.proofs.Finding.{chosen-own, chosen-public, chosen-none}
 use Rattle.shelf.proofs.find.choose.Statement.{statement}
 use Rattle.shelf.proofs.find.choose.Tie as tie
@@ -17,10 +18,17 @@ sizes c =
     let s = c .before .before in
     (formed-is (now (s .args .private)) true (s .pre .1) .sizes, formed-is (now (s .args .public)) false (s .pre .2) .sizes)
 
+rise : (c : tie.After-shared-slice-known2) → PairsRise (now (c .before .before .args .private)) × PairsRise (now (c .before .before .args .public))
+rise c =
+    let s = c .before .before in (
+      pairs-rise _ (λ i. omega (arith, c .before .shared-slice-known .given i)) true (formed-is _ true (s .pre .1)),
+      pairs-rise _ (λ i. omega (arith, c .shared-slice-known2 .given i)) false (formed-is _ false (s .pre .2)),
+    )
+
 entry-of-requires : tie.Need-entry-of-requires
 entry-of-requires c κs =
     let z = sizes c in
-    (omega (arith, z .0 .room, z .1 .room), omega (arith, z .0 .room, z .1 .room))
+    (omega (arith, z .0 .room, z .1 .room), search (rise c), search needs, search needs)
 
 count-requires : tie.Need-count-requires
 count-requires c κs =
@@ -43,8 +51,9 @@ returns c =
 
 entry-of-requires-2 : tie.Need-entry-of-requires-2
 entry-of-requires-2 c κs =
-    let z = sizes (c .before .before .before) in
-    (omega (arith, z .0 .room, z .1 .room), omega (arith, z .0 .room, z .1 .room))
+    let u = c .before .before .before in
+    let z = sizes u in
+    (omega (arith, z .0 .room, z .1 .room), search (rise u), search needs, search needs)
 
 count-requires-2 : tie.Need-count-requires-2
 count-requires-2 c κs =

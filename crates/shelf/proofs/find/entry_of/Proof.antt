@@ -1,75 +1,69 @@
--- `shelf::find::entry_of` meets its contract. The loop's invariant: no entry passed is the one that is asked for.
-use mathlib.Core.Path.{_≡_, sym}
-use mathlib.Core.Bool.{true, false}
-use Prim.Native.Nat.{ℕ, _-_, _≤_, _<_}
+-- `shelf::find::entry_of` meets its contract.
+use mathlib.Core.Path.{_≡_, _∙_}
+use Prim.Native.Nat.{_+_, _*_}
 use native.Mathlib.Omega.{arith}
 use denote.Ref.{now}
-use borrow.Author.Count.{below-more}
 use borrow.Author.Needs.{needs}
-use Rattle.bits.proofs.Ranges.{any-none, first-none, first-is}
-use Rattle.shelf.specs.Shelf.{count}
-use Rattle.shelf.specs.Lookup.{isEntry, entryOf}
+use Rattle.bits.specs.Bits.{AreOctets}
+use Rattle.shelf.specs.steps.Walking.{pair}
+use Rattle.shelf.proofs.Finding.{entry-found, entry-none}
 use Rattle.shelf.proofs.find.entry_of.Statement.{statement}
 use Rattle.shelf.proofs.find.entry_of.Tie as tie
 
-abbrev Inv-loop : tie.InvT-loop
-Inv-loop shelf tenant profile count k₀ k = (k ≤ count) × ((j : ℕ) → j < k → isEntry shelf tenant profile j ≡ false)
+octets : (c : tie.After-shared-slice-known) → AreOctets (now (c .before .args .shelf))
+octets c i = omega (arith, c .shared-slice-known .given i)
 
-abbrev μ-loop : tie.MeasureT-loop
-μ-loop shelf tenant profile count k₀ k = count - k
-
-count-requires : tie.Need-count-requires Inv-loop μ-loop
+count-requires : tie.Need-count-requires
 count-requires c κs = search needs
 
-loop-holds : tie.Need-loop-holds Inv-loop μ-loop
-loop-holds c = (search needs, λ j l. absurd (omega arith))
+mul-asked : tie.Need-mul-asked
+mul-asked c = search needs
 
-is-entry-requires : tie.Need-is-entry-requires Inv-loop μ-loop
-is-entry-requires c κs = search needs
+add-asked : tie.Need-add-asked
+add-asked c = search needs
 
-returns : tie.Need-returns Inv-loop μ-loop
-unfolding entryOf
+place-of-requires : tie.Need-place-of-requires
+place-of-requires c κs = search needs
+
+returns : tie.Need-returns
 returns c =
-    let a = c .before .before .before .before .before .before .args in
-    let S = now (a .shelf) in
-    let l = c .before .before .before .loop in
-    let here : isEntry S (a .tenant) (a .profile) (l .k) ≡ true = cc in
-    sym (first-is (count S) (isEntry S (a .tenant) (a .profile)) (l .k) (record { below = search needs; holds = here; none = l .inv .1 }))
+    let k = c .before in
+    let s = k .before .before in
+    let a = s .before .args in
+    k .before .count .ensures .0
+    ∙ entry-none (now (a .shelf)) (octets s) (a .tenant) (a .profile) (s .before .pre .3) (k .place-of .result) (k .place-of .ensures) (s .before .pre .1)
+    (λ l e. omega arith)
 
-add-k : tie.Need-add-k Inv-loop μ-loop
-add-k c = search needs
+pair-requires : tie.Need-pair-requires
+pair-requires c κs = omega (arith, c .before .place-of .ensures .inside)
 
-loop-less : tie.Need-loop-less Inv-loop μ-loop
-loop-less c = search needs
-
-loop-again : tie.Need-loop-again Inv-loop μ-loop
-loop-again c =
-    let a = c .before .before .before .before .before .before .args in
-    let S = now (a .shelf) in
-    let l = c .before .before .before .loop in
-    let other : isEntry S (a .tenant) (a .profile) (l .k) ≡ false = cc in
-    (search needs, below-more (λ (j : ℕ). isEntry S (a .tenant) (a .profile) j ≡ false) (l .k) (l .inv .1) other)
-
-returns-2 : tie.Need-returns-2 Inv-loop μ-loop
-unfolding entryOf
+returns-2 : tie.Need-returns-2
 returns-2 c =
-    let a = c .before .before .before .before .args in
-    let S = now (a .shelf) in
-    let one = isEntry S (a .tenant) (a .profile) in
-    let none = first-none (count S) one (any-none (count S) one (λ j l. c .before .loop .inv .1 j (omega arith))) in
-    cc none
+    let k = c .before .before .before in
+    let s = k .before .before in
+    let a = s .before .args in
+    k .before .count .ensures .0
+    ∙ entry-none (now (a .shelf)) (octets s) (a .tenant) (a .profile) (s .before .pre .3) (k .place-of .result) (k .place-of .ensures) (s .before .pre .1)
+    (λ l e. c .if2 .taken (omega (arith, e)))
+
+returns-3 : tie.Need-returns-3
+returns-3 c =
+    let k = c .before .before .before in
+    let s = k .before .before in
+    let a = s .before .args in
+    let same : pair (now (a .shelf)) (k .place-of .result) ≡ a .tenant * 65536 + a .profile = omega arith in
+    entry-found (now (a .shelf)) (octets s) (a .tenant) (a .profile) (s .before .pre .3) (k .place-of .result) (k .place-of .ensures)
+    (omega (arith, k .place-of .ensures .inside)) same
 
 pub entry-of-spec : {M : Type 1} → statement M
 entry-of-spec =
     tie.close
     (tie.spec
-    Inv-loop
-    μ-loop
     count-requires
-    loop-holds
-    is-entry-requires
+    mul-asked
+    add-asked
+    place-of-requires
     returns
-    add-k
-    loop-less
-    loop-again
-    returns-2)
+    pair-requires
+    returns-2
+    returns-3)

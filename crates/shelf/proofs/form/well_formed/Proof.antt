@@ -4,9 +4,7 @@ use mathlib.Core.Bool.{true, false}
 use denote.Ref.{now}
 use borrow.Author.Needs.{needs}
 use borrow.Author.Tests.{not-true, not-false}
-use Rattle.bits.specs.Ranges.{allBelow}
-use Rattle.shelf.specs.Shelf.{count}
-use Rattle.shelf.specs.steps.Walking.{sizesRight, entryRight, walkRight}
+use Rattle.shelf.specs.steps.Walking.{sizesRight, tenantsRight, walkRight}
 use Rattle.shelf.proofs.WellFormed.{walk-is}
 use Rattle.shelf.proofs.form.well_formed.Statement.{statement}
 use Rattle.shelf.proofs.form.well_formed.Tie as tie
@@ -22,8 +20,8 @@ returns c =
     let one : sizesRight S ≡ false = cc (not-true (c .before .sizes-right .result) (c .if1 .taken)) in
     rw (← walk-is S (a .private), one)
 
-entries-right-requires : tie.Need-entries-right-requires
-entries-right-requires c κs = cc (not-false (c .before .sizes-right .result) (c .if1 .left))
+tenants-right-requires : tie.Need-tenants-right-requires
+tenants-right-requires c κs = cc (not-false (c .before .sizes-right .result) (c .if1 .left))
 
 returns-2 : tie.Need-returns-2
 unfolding walkRight
@@ -32,11 +30,11 @@ returns-2 c =
     let a = u .before .before .before .args in
     let S = now (a .shelf) in
     let one : sizesRight S ≡ true = cc (not-false (u .before .sizes-right .result) (u .if1 .left)) in
-    let two : allBelow (count S) (entryRight (a .private) S) ≡ false = cc (not-true (c .before .entries-right .result) (c .if2 .taken)) in
+    let two : tenantsRight (a .private) S ≡ false = cc (not-true (c .before .tenants-right .result) (c .if2 .taken)) in
     rw (← walk-is S (a .private), one, two)
 
-ends-right-requires : tie.Need-ends-right-requires
-ends-right-requires c κs =
+entries-right-requires : tie.Need-entries-right-requires
+entries-right-requires c κs =
     let u = c .before .before in
     cc (not-false (u .before .sizes-right .result) (u .if1 .left))
 
@@ -48,7 +46,7 @@ returns-3 c =
     let a = u .before .before .before .args in
     let S = now (a .shelf) in
     let one : sizesRight S ≡ true = cc (not-false (u .before .sizes-right .result) (u .if1 .left)) in
-    let two : allBelow (count S) (entryRight (a .private) S) ≡ true = cc (not-false (v .before .entries-right .result) (v .if2 .left)) in
+    let two : tenantsRight (a .private) S ≡ true = cc (not-false (v .before .tenants-right .result) (v .if2 .left)) in
     rw (← walk-is S (a .private), one, two) (cc)
 
 pub well-formed-spec : {M : Type 1} → statement M
@@ -57,7 +55,7 @@ well-formed-spec =
     (tie.spec
     sizes-right-requires
     returns
-    entries-right-requires
+    tenants-right-requires
     returns-2
-    ends-right-requires
+    entries-right-requires
     returns-3)

@@ -55,8 +55,13 @@ returns-3 c =
 
 choose-requires : tie.Need-choose-requires
 choose-requires c κs =
-    let v = c .before .before in
-    (omega arith, sym (v .before .well-formed .ensures) ∙ not-false _ (v .if2 .left), sym (c .before .well-formed2 .ensures) ∙ not-false _ (c .if3 .left))
+    let v = c .before .before in (
+      omega arith,
+      sym (v .before .well-formed .ensures) ∙ not-false _ (v .if2 .left),
+      sym (c .before .well-formed2 .ensures) ∙ not-false _ (c .if3 .left),
+      search needs,
+      search needs,
+    )
 
 returns-4 : tie.Need-returns-4
 returns-4 c = search needs
