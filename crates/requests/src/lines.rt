@@ -20,11 +20,36 @@ pub fn answer(
     if long {
         return Answer::Error(Fault::Long);
     }
-    let n = without_spaces(line, before_comment(line));
-    if n == 0 {
+    let n = without_spaces(line, line.len());
+    let answer = of_request(&line[0..n], records, bits, lent);
+    if let Answer::Error(_) = answer {
+        return with_comment(line, n, answer, records, bits, lent);
+    }
+    answer
+}
+
+// The answer to a line of which n octets were answered with an error. No word of a request begins
+// with #, so a line that is a request has no comment, and one is looked for here only.
+fn with_comment(
+    line: &[u8],
+    n: usize,
+    answer: Answer,
+    records: &mut [u8],
+    bits: &mut [u8],
+    lent: &mut [u8],
+) -> Answer {
+    let m = without_spaces(line, before_comment(line));
+    if m == n {
+        return answer;
+    }
+    of_request(&line[0..m], records, bits, lent)
+}
+
+fn of_request(request: &[u8], records: &mut [u8], bits: &mut [u8], lent: &mut [u8]) -> Answer {
+    if request.len() == 0 {
         return Answer::Nothing;
     }
-    names::answer(&line[0..n], records, bits, lent)
+    names::answer(request, records, bits, lent)
 }
 
 fn is_comment(line: &[u8]) -> bool {

@@ -22,56 +22,132 @@ use text::faults::Fault;
 use text::forms;
 use text::forms::Given;
 use text::forms::WORDS;
-use text::words;
+use text::octets::find_near;
+use text::octets::put;
+use text::octets::same;
+ghost use Prim.Native.Nat.{_≤_};
+ghost use mathlib.Core.Path.{_≡_};
 ghost use lib.ListN.{length};
 ghost use Rattle.text.specs.Words.{Held};
 
-// The forms stand one to a line, and `of_kind` has a module for each, by its place in the list.
-// `records` and `bits` take the octets that the words of a request hold, a record, packed octets or a
-// private shelf in the first half of `records` and a public shelf in the second; `lent` is the output of
-// the call that it asks for.
+// The kinds of requests are counted from 0: a request's name gives its kind, by `kind_of`, `put_form` has
+// its form, and `of_kind` its module. `records` and `bits` take the octets that the words of a request
+// hold, a record, packed octets or a private shelf in the first half of `records` and a public shelf in
+// the second; `lent` is the output of the call that it asks for.
 pub fn answer(request: &[u8], records: &mut [u8], bits: &mut [u8], lent: &mut [u8]) -> Answer {
-    of_list(
-        b"crc WIDTH BITS
-crc24b BITS
-crcoct WIDTH PACKED
-crcm WIDTH MASK BITS
-crcappend WIDTH MASK BITS OUTLEN
-crctest WIDTH MASK BITS
-profile RECORD
-plan RECORD OCTETS ed=1
-encode RECORD Z PLACES OUTLEN
-check RECORD Z BITS by=quick|plain
-sums RECORD Z BITS OUTLEN
-rate E PLACES OUTLEN type=1 rv=0
-send RECORD BLOCK NL QM G OUTLEN rv=0 ed=1
-recv RECORD A NL QM BITS OUTLEN rv=0 ed=1 by=quick|plain
-lookup PRIVATE PUBLIC TENANT PROFILE
-hsend PRIVATE PUBLIC TENANT PROFILE BLOCK NL QM G OUTLEN rv=0 ed=1
-hrecv PRIVATE PUBLIC TENANT PROFILE A NL QM BITS OUTLEN rv=0 ed=1 by=quick|plain
-hcheck PRIVATE PUBLIC TENANT PROFILE Z BITS by=quick|plain
-",
-        request,
-        records,
-        bits,
-        lent,
-    )
-}
-
-fn of_list(
-    list: &[u8],
-    request: &[u8],
-    records: &mut [u8],
-    bits: &mut [u8],
-    lent: &mut [u8],
-) -> Answer {
-    let found = words::entry(list, b'\n', b' ', words::before(request, b' '));
-    let from = found.from;
-    let end = found.end;
-    if from == end {
+    let end = find_near(request, 0, b' ');
+    let kind = kind_of(&request[0..end]);
+    if kind == NO_KIND {
         return Answer::Error(Fault::Request);
     }
-    of_form(found.place, &list[from..end], request, records, bits, lent)
+    let mut form = [0u8; 96];
+    let n = put_form(kind, &mut form);
+    of_form(kind, &form[0..n], request, records, bits, lent)
+}
+
+// Behind the last kind.
+const NO_KIND: usize = 18;
+
+fn kind_of(name: &[u8]) -> usize {
+    if same(name, b"crc") {
+        return 0;
+    }
+    if same(name, b"crc24b") {
+        return 1;
+    }
+    if same(name, b"crcoct") {
+        return 2;
+    }
+    if same(name, b"crcm") {
+        return 3;
+    }
+    if same(name, b"crcappend") {
+        return 4;
+    }
+    if same(name, b"crctest") {
+        return 5;
+    }
+    if same(name, b"profile") {
+        return 6;
+    }
+    if same(name, b"plan") {
+        return 7;
+    }
+    if same(name, b"encode") {
+        return 8;
+    }
+    if same(name, b"check") {
+        return 9;
+    }
+    if same(name, b"sums") {
+        return 10;
+    }
+    if same(name, b"rate") {
+        return 11;
+    }
+    if same(name, b"send") {
+        return 12;
+    }
+    if same(name, b"recv") {
+        return 13;
+    }
+    if same(name, b"lookup") {
+        return 14;
+    }
+    if same(name, b"hsend") {
+        return 15;
+    }
+    if same(name, b"hrecv") {
+        return 16;
+    }
+    if same(name, b"hcheck") {
+        return 17;
+    }
+    NO_KIND
+}
+
+// Puts the form of a kind at the start of `form`, and answers its length.
+fn put_form(kind: usize, form: &mut [u8]) -> usize
+    requires { ⌜ length (now form) ≡ 96 ⌝ }
+    ensures { λ r. ⌜ r ≤ 96 ⌝ }
+{
+    match kind {
+        0 => put(b"crc WIDTH BITS", form, 0),
+        1 => put(b"crc24b BITS", form, 0),
+        2 => put(b"crcoct WIDTH PACKED", form, 0),
+        3 => put(b"crcm WIDTH MASK BITS", form, 0),
+        4 => put(b"crcappend WIDTH MASK BITS OUTLEN", form, 0),
+        5 => put(b"crctest WIDTH MASK BITS", form, 0),
+        6 => put(b"profile RECORD", form, 0),
+        7 => put(b"plan RECORD OCTETS ed=1", form, 0),
+        8 => put(b"encode RECORD Z PLACES OUTLEN", form, 0),
+        9 => put(b"check RECORD Z BITS by=quick|plain", form, 0),
+        10 => put(b"sums RECORD Z BITS OUTLEN", form, 0),
+        11 => put(b"rate E PLACES OUTLEN type=1 rv=0", form, 0),
+        12 => put(b"send RECORD BLOCK NL QM G OUTLEN rv=0 ed=1", form, 0),
+        13 => put(
+            b"recv RECORD A NL QM BITS OUTLEN rv=0 ed=1 by=quick|plain",
+            form,
+            0,
+        ),
+        14 => put(b"lookup PRIVATE PUBLIC TENANT PROFILE", form, 0),
+        15 => put(
+            b"hsend PRIVATE PUBLIC TENANT PROFILE BLOCK NL QM G OUTLEN rv=0 ed=1",
+            form,
+            0,
+        ),
+        16 => put(
+            b"hrecv PRIVATE PUBLIC TENANT PROFILE A NL QM BITS OUTLEN rv=0 ed=1 by=quick|plain",
+            form,
+            0,
+        ),
+        17 => put(
+            b"hcheck PRIVATE PUBLIC TENANT PROFILE Z BITS by=quick|plain",
+            form,
+            0,
+        ),
+        _ => 0,
+    }
 }
 
 fn of_form(

@@ -1,6 +1,5 @@
 // The output that is lent to a call, and whether the call kept to it.
 use crate::answers::Answer;
-use bits::inner::some_over;
 use bits::number::DONE;
 use bits::number::Written;
 use text::faults::Fault;
@@ -48,10 +47,28 @@ fn is_kept(shown: Shown, written: Written, lent: &[u8]) -> bool {
     if n > most(written.number, lent) {
         return false;
     }
-    if some_over(shown::largest(shown), &lent[0..n]) {
+    if largest(&lent[0..n]) > shown::largest(shown) {
         return false;
     }
     is_filled(&lent[n..])
+}
+
+// The largest octet, and 0 of none.
+fn largest(part: &[u8]) -> u8 {
+    let mut most = 0u8;
+    let mut i = 0;
+    while i < part.len() {
+        most = greater(most, part[i]);
+        i += 1;
+    }
+    most
+}
+
+fn greater(a: u8, b: u8) -> u8 {
+    if a < b {
+        return b;
+    }
+    a
 }
 
 // A refusal counts nothing.

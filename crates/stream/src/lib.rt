@@ -163,11 +163,10 @@ fn answer_lines(
     let mut from = 0;
     while from < chunk.len() {
         let end = octets::find(chunk, from, b'\n');
-        reading = hold(&chunk[from..end], line, reading);
         if end == chunk.len() {
-            return reading;
+            return hold(&chunk[from..end], line, reading);
         }
-        reading = answer_line(line, records, bits, lent, out, reading);
+        reading = answer_piece(&chunk[from..end], line, records, bits, lent, out, reading);
         if reading.done {
             return reading;
         }
@@ -190,9 +189,10 @@ fn hold(piece: &[u8], line: &mut [u8], mut reading: Reading) -> Reading
     reading
 }
 
-// Answers the line that is held, and begins the next.
-fn answer_line(
-    line: &[u8],
+// Answers the line that ends with a piece, and begins the next.
+fn answer_piece(
+    piece: &[u8],
+    line: &mut [u8],
     records: &mut [u8],
     bits: &mut [u8],
     lent: &mut [u8],
@@ -202,19 +202,48 @@ fn answer_line(
     requires { ⌜ Stands reading (now line) (now lent) (now out) ⌝ }
     ensures { λ r. ⌜ Stands r (now (line .entry)) (now (lent .entry)) (now (out .entry)) ⌝ }
 {
-    let ready = with_room(lent, out, reading);
+    let mut ready = with_room(lent, out, reading);
     if ready.done {
         return ready;
     }
-    let held = ready.held;
-    let answer = lines::answer(&line[0..held], ready.long, records, bits, lent);
+    let at = ready.waiting;
+    if is_whole(piece, line, ready) {
+        ready.waiting = answer_line(piece, false, records, bits, lent, out, at);
+        return ready;
+    }
+    let whole = hold(piece, line, ready);
+    let held = whole.held;
     Reading {
         held: 0,
         long: false,
-        waiting: answers::put(answer, lent, out, ready.waiting),
+        waiting: answer_line(&line[0..held], whole.long, records, bits, lent, out, at),
         done: false,
         failed: false,
     }
+}
+
+// Whether a piece is a line for which there is room, so that it is answered where it stands.
+fn is_whole(piece: &[u8], line: &[u8], reading: Reading) -> bool {
+    if reading.held > 0 {
+        return false;
+    }
+    piece.len() <= line.len()
+}
+
+fn answer_line(
+    line: &[u8],
+    long: bool,
+    records: &mut [u8],
+    bits: &mut [u8],
+    lent: &mut [u8],
+    out: &mut [u8],
+    at: usize,
+) -> usize
+    requires { ⌜ Roomy at (now lent) (now out) ⌝ }
+    ensures { λ r. ⌜ r ≤ length (now (out .entry)) ⌝ }
+{
+    let answer = lines::answer(line, long, records, bits, lent);
+    answers::put(answer, lent, out, at)
 }
 
 // Makes room for one more answer.

@@ -2,7 +2,9 @@
 // word holds, and with the optional words and their defaults behind them.
 use crate::faults::Fault;
 use crate::octets::find;
+use crate::octets::find_near;
 use crate::octets::least;
+use crate::octets::same;
 use crate::options;
 use crate::values;
 use crate::values::Parsed;
@@ -118,30 +120,28 @@ pub fn read(
 ) -> Given
     ensures { λ r. ⌜ Held r (now (records .entry)) (now (bits .entry)) room ⌝ }
 {
-    let n = options::start(form);
-    let m = options::start(request);
-    if !is_counted(form, n, request, m) {
-        return Given::nothing(true);
-    }
-    let given = read_words(&form[0..n], &request[0..m], numbers, records, bits, room);
-    if given.bad {
+    let given = read_words(form, request, numbers, records, bits, room);
+    if !given.bad {
         return given;
     }
-    given.with(options::read(form, n, request, m, numbers))
+    if is_counted(form, request) {
+        return given;
+    }
+    Given::nothing(true)
 }
 
-// Whether the optional words, behind n and m, are the form's, and the others as many as the form's.
-fn is_counted(form: &[u8], n: usize, request: &[u8], m: usize) -> bool
-    requires { ⌜ (n ≤ length (now form)) × (m ≤ length (now request)) ⌝ }
-{
+// Whether the optional words are the form's, and the others as many as the form's. A fault of the words
+// as a whole comes before that of one of them, so this is asked where there is a fault.
+fn is_counted(form: &[u8], request: &[u8]) -> bool {
+    let n = options::start(form);
+    let m = options::start(request);
     if words::count(&form[0..n]) != words::count(&request[0..m]) {
         return false;
     }
     options::are_known(words::from(form, n), words::from(request, m))
 }
 
-// Goes over the form and the line together, up to the first word that does not keep to the form. There
-// are as many words on the line.
+// Goes over the form and the line together, up to the first word that does not keep to the form.
 fn read_words(
     form: &[u8],
     line: &[u8],
@@ -154,12 +154,15 @@ fn read_words(
 {
     let mut given = Given::nothing(false);
     let mut k = 1;
-    let mut of_form = find(form, 0, b' ');
-    let mut at = find(line, 0, b' ');
+    let mut of_form = find_near(form, 0, b' ');
+    let mut at = find_near(line, 0, b' ');
     while of_form < form.len() {
         let name = of_form + 1;
+        if is_optional(&form[name..]) {
+            break;
+        }
         let word = least(at + 1, line.len());
-        of_form = find(form, name, b' ');
+        of_form = find_near(form, name, b' ');
         at = find(line, word, b' ');
         given = read_word(
             &form[name..of_form],
@@ -174,10 +177,61 @@ fn read_words(
         }
         k = values::keep(given.value, numbers, k);
     }
-    given
+    let kept = least(k, numbers.len());
+    given.with(options::read(
+        words::from(form, of_form),
+        &line[at..],
+        &mut numbers[kept..],
+    ))
 }
 
-// The names of words that hold octets; each other name is that of a number.
+// Whether an optional word stands first in a part of a form: the names of the others are in capitals.
+fn is_optional(form: &[u8]) -> bool {
+    if form.len() == 0 {
+        return false;
+    }
+    form[0] >= b'a'
+}
+
+// What a word of a form holds.
+enum Kind {
+    // Octets of the first half of the store of records.
+    First,
+    // Octets of its second half.
+    Second,
+    // Octets of the store of bits.
+    Block,
+    Bits,
+    // A number.
+    Other,
+}
+
+// By the name of the word; each other name is that of a number.
+fn kind_of(name: &[u8]) -> Kind {
+    if same(name, b"RECORD") {
+        return Kind::First;
+    }
+    if same(name, b"PACKED") {
+        return Kind::First;
+    }
+    if same(name, b"PRIVATE") {
+        return Kind::First;
+    }
+    if same(name, b"PUBLIC") {
+        return Kind::Second;
+    }
+    if same(name, b"BLOCK") {
+        return Kind::Block;
+    }
+    if same(name, b"BITS") {
+        return Kind::Bits;
+    }
+    if same(name, b"PLACES") {
+        return Kind::Bits;
+    }
+    Kind::Other
+}
+
 fn read_word(
     name: &[u8],
     word: &[u8],
@@ -189,14 +243,16 @@ fn read_word(
     requires { ⌜ Held given (now records) (now bits) room ⌝ }
     ensures { λ r. ⌜ Held r (now (records .entry)) (now (bits .entry)) room ⌝ }
 {
-    let names = b"RECORD PACKED PRIVATE PUBLIC BLOCK BITS PLACES";
-    let place = words::entry(names, b' ', b' ', name).place;
-    match place {
-        0..=2 => given.with_record(first_half(word, records)),
-        3 => given.with_public(second_half(word, records)),
-        4 => given.with_bits(values::block(word, bits)),
-        5..=6 => given.with_bits(values::bits(word, bits)),
-        _ => read_number(name, word, room, given),
+    if word.len() == 0 {
+        return given.with(Parsed::Bad(Fault::Words));
+    }
+    let what = kind_of(name);
+    match what {
+        Kind::First => given.with_record(first_half(word, records)),
+        Kind::Second => given.with_public(second_half(word, records)),
+        Kind::Block => given.with_bits(values::block(word, bits)),
+        Kind::Bits => given.with_bits(values::bits(word, bits)),
+        Kind::Other => read_number(name, word, room, given),
     }
 }
 
@@ -219,11 +275,17 @@ fn read_number(name: &[u8], word: &[u8], room: usize, given: Given) -> Given
     requires { ⌜ given .lent ≤ room ⌝ }
     ensures { λ r. ⌜ (r .record ≡ given .record) × (r .public ≡ given .public) × (r .bits ≡ given .bits) × (r .lent ≤ room) ⌝ }
 {
-    let place = words::entry(b"OUTLEN TENANT PROFILE MASK", b' ', b' ', name).place;
-    match place {
-        0 => given.with_lent(values::outlen(word, room)),
-        1..=2 => given.with(values::short(word)),
-        3 => given.with(values::mask(word)),
-        _ => given.with(values::number(word)),
+    if same(name, b"OUTLEN") {
+        return given.with_lent(values::outlen(word, room));
     }
+    if same(name, b"TENANT") {
+        return given.with(values::short(word));
+    }
+    if same(name, b"PROFILE") {
+        return given.with(values::short(word));
+    }
+    if same(name, b"MASK") {
+        return given.with(values::mask(word));
+    }
+    given.with(values::number(word))
 }

@@ -8,6 +8,16 @@ pub fn decimal(n: u64, out: &mut [u8], at: usize) -> usize
     requires { ⌜ at + 20 ≤ length (now out) ⌝ }
     ensures { λ r. ⌜ r ≤ at + 20 ⌝ }
 {
+    if n < 10 {
+        return put_one(b'0' + (n as u8), out, at);
+    }
+    several_digits(n, out, at)
+}
+
+fn several_digits(n: u64, out: &mut [u8], at: usize) -> usize
+    requires { ⌜ at + 20 ≤ length (now out) ⌝ }
+    ensures { λ r. ⌜ r ≤ at + 20 ⌝ }
+{
     let mut text = [0u8; 20];
     let k = io::decimal(n, &mut text);
     put(&text[..k], out, at)

@@ -22,7 +22,17 @@ pub fn find(s: &[u8], from: usize, octet: u8) -> usize
     requires { ⌜ from ≤ length (now s) ⌝ }
     ensures { λ r. ⌜ (from ≤ r) × (r ≤ length (now (s .entry))) ⌝ }
 {
-    let mut i = pass(s, from, octet);
+    let far = pass_long(s, from, octet);
+    let near = pass(s, far, octet);
+    find_near(s, near, octet)
+}
+
+// The same, one octet after the other, for an octet that is near.
+pub fn find_near(s: &[u8], from: usize, octet: u8) -> usize
+    requires { ⌜ from ≤ length (now s) ⌝ }
+    ensures { λ r. ⌜ (from ≤ r) × (r ≤ length (now (s .entry))) ⌝ }
+{
+    let mut i = from;
     while i < s.len() {
         if s[i] == octet {
             return i;
@@ -32,14 +42,29 @@ pub fn find(s: &[u8], from: usize, octet: u8) -> usize
     i
 }
 
-// Goes on from `from` by stretches that have no such octet, up to one that has it or is not whole.
+// Goes on from `from` by long stretches that have no such octet, up to one that has it or is not whole.
+fn pass_long(s: &[u8], from: usize, octet: u8) -> usize
+    requires { ⌜ from ≤ length (now s) ⌝ }
+    ensures { λ r. ⌜ (from ≤ r) × (r ≤ length (now (s .entry))) ⌝ }
+{
+    let mut i = from;
+    while s.len() - i >= 64 {
+        if is_in_64(s, i, octet) {
+            return i;
+        }
+        i += 64;
+    }
+    i
+}
+
+// The same by short stretches.
 fn pass(s: &[u8], from: usize, octet: u8) -> usize
     requires { ⌜ from ≤ length (now s) ⌝ }
     ensures { λ r. ⌜ (from ≤ r) × (r ≤ length (now (s .entry))) ⌝ }
 {
     let mut i = from;
     while s.len() - i >= 16 {
-        if has(s, i, octet) {
+        if is_in_16(s, i, octet) {
             return i;
         }
         i += 16;
@@ -47,18 +72,30 @@ fn pass(s: &[u8], from: usize, octet: u8) -> usize
     i
 }
 
-// Whether the octet is one of the sixteen from `at` on. No turn leaves early, so that they are
-// compared all at once.
-fn has(s: &[u8], at: usize, octet: u8) -> bool
-    requires { ⌜ at + 16 ≤ length (now s) ⌝ }
+// Whether the octet is one of the 64 from `at` on. No turn leaves early, so that many are compared at
+// once.
+fn is_in_64(s: &[u8], at: usize, octet: u8) -> bool
+    requires { ⌜ at + 64 ≤ length (now s) ⌝ }
 {
-    let mut found = 0u8;
+    let mut found = false;
     let mut k = 0;
-    while k < 16 {
-        found = found | ((s[at + k] == octet) as u8);
+    while k < 64 {
+        found = found | (s[at + k] == octet);
         k += 1;
     }
-    found != 0
+    found
+}
+
+fn is_in_16(s: &[u8], at: usize, octet: u8) -> bool
+    requires { ⌜ at + 16 ≤ length (now s) ⌝ }
+{
+    let mut found = false;
+    let mut k = 0;
+    while k < 16 {
+        found = found | (s[at + k] == octet);
+        k += 1;
+    }
+    found
 }
 
 // Puts s into t from `at` on, and answers the place behind it.
@@ -97,4 +134,25 @@ pub fn first(s: &[u8], n: usize) -> &[u8]
 {
     let k = least(n, s.len());
     &s[0..k]
+}
+
+// Two neighbours as one number, the first of them times `step / 256`. They are read as one word and moved
+// by one product, so that many are joined at once. Both are less than `step / 256`.
+pub fn joined(s: &[u8], at: usize, step: u32) -> u8
+    requires { ⌜ (at + 2 ≤ length (now s)) × (step ≤ 4097) ⌝ }
+{
+    ((word(s, at) * step) / 256 % 256) as u8
+}
+
+fn word(s: &[u8], at: usize) -> u32
+    requires { ⌜ at + 2 ≤ length (now s) ⌝ }
+    ensures { λ r. ⌜ r < 65536 ⌝ }
+{
+    to_u32(s[at]) + to_u32(s[at + 1]) * 256
+}
+
+fn to_u32(x: u8) -> u32
+    ensures { λ r. ⌜ r < 256 ⌝ }
+{
+    x as u32
 }

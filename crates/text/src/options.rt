@@ -1,9 +1,8 @@
 // Optional words: each is a name, `=` and a value, and they stand behind the other words. A form has
 // them too, each with what it holds where a line does not have it.
 use crate::faults::Fault;
-use crate::forms::WORDS;
 use crate::octets::find;
-use crate::octets::least;
+use crate::octets::find_near;
 use crate::values;
 use crate::values::Parsed;
 use crate::words;
@@ -74,22 +73,25 @@ fn is_known(form: &[u8], rest: &[u8], name: &[u8]) -> bool {
     words::has(form, b' ', b'=', name)
 }
 
-// Reads the optional words of a request, behind n and m: `numbers` takes what each holds, at the place
-// that it has in the form. The first fault on the line is answered.
-pub fn read(form: &[u8], n: usize, request: &[u8], m: usize, numbers: &mut [usize]) -> Parsed
-    requires { ⌜ (n ≤ length (now form)) × (m ≤ length (now request)) ⌝ }
-{
-    let most = least(WORDS, numbers.len());
-    let k = least(words::count(&form[0..n]), most);
-    read_all(
-        words::from(form, n),
-        words::from(request, m),
-        &mut numbers[k..],
-    )
+// Reads the optional words of a request. `rest` is what stands behind the other words, from the space
+// on. `numbers` takes what each holds, at the place that it has among those of the form. The first
+// fault on the line is answered.
+pub fn read(form: &[u8], rest: &[u8], numbers: &mut [usize]) -> Parsed {
+    put_defaults(form, numbers);
+    if rest.len() == 0 {
+        return Parsed::Value(0);
+    }
+    if start_from_end(rest) > 0 {
+        return Parsed::Bad(Fault::Words);
+    }
+    let line = words::from(rest, 0);
+    if !are_known(form, line) {
+        return Parsed::Bad(Fault::Words);
+    }
+    read_all(form, line, numbers)
 }
 
 fn read_all(form: &[u8], line: &[u8], numbers: &mut [usize]) -> Parsed {
-    put_defaults(form, numbers);
     let mut at = 0;
     while at < line.len() {
         let end = find(line, at, b' ');
@@ -106,15 +108,16 @@ fn put_defaults(form: &[u8], numbers: &mut [usize]) {
     let mut k = 0;
     let mut at = 0;
     while at < form.len() {
-        let end = find(form, at, b' ');
-        k = values::keep(default(words::behind(&form[at..end], b'=')), numbers, k);
+        let end = find_near(form, at, b' ');
+        k = values::keep(default(&form[at..end]), numbers, k);
         at = end + 1;
     }
 }
 
-// A number, or 0 for the first of several words.
-fn default(text: &[u8]) -> usize {
-    values::value_of(values::number(text))
+// What an optional word of a form has behind its `=`: a number, or 0 for the first of several words.
+fn default(word: &[u8]) -> usize {
+    let mark = find_near(word, 0, b'=');
+    values::value_of(values::number(words::from(word, mark)))
 }
 
 fn read_word(form: &[u8], word: &[u8], numbers: &mut [usize]) -> Parsed {

@@ -1,4 +1,5 @@
 // Octets of an output as the digits that an answer shows them with.
+use crate::octets::joined;
 use crate::octets::put_one;
 ghost use Prim.Native.Nat.{_+_, _*_, _≤_, _<_};
 ghost use mathlib.Core.Path.{_≡_};
@@ -37,37 +38,92 @@ pub fn put(shown: Shown, s: &[u8], out: &mut [u8], at: usize) -> usize
 
 fn put_all(shown: Shown, s: &[u8], out: &mut [u8], at: usize) -> usize
     requires { ⌜ at + 2 * length (now s) < length (now out) ⌝ }
-    ensures { λ r. ⌜ r ≤ at + 2 * length (now (s .entry)) ⌝ }
+    ensures { λ r. ⌜ (r ≡ at + digitsOf shown (length (now (s .entry)))) × (r ≤ at + 2 * length (now (s .entry))) ⌝ }
 {
-    let n = count(shown, s);
+    match shown {
+        Shown::Places => put_places(s, out, at),
+        Shown::Bits => put_bits(s, out, at),
+        Shown::Octets => put_octets(s, out, at),
+    }
+}
+
+// The masks here and in `bit` change nothing in an octet that can be shown (`largest`).
+fn put_places(s: &[u8], out: &mut [u8], at: usize) -> usize
+    requires { ⌜ at + length (now s) ≤ length (now out) ⌝ }
+    ensures { λ r. ⌜ r ≡ at + digitsOf Shown.Places (length (now (s .entry))) ⌝ }
+{
     let mut k = 0;
-    while k < n {
-        out[at + k] = character(digit(shown, s, k));
+    while k < s.len() {
+        out[at + k] = b'0' + s[k] % 16;
         k += 1;
     }
-    at + n
+    at + k
 }
 
-fn count(shown: Shown, s: &[u8]) -> usize
-    ensures { λ r. ⌜ (r ≡ digitsOf shown (length (now (s .entry)))) × (r ≤ 2 * length (now (s .entry))) ⌝ }
+fn put_octets(s: &[u8], out: &mut [u8], at: usize) -> usize
+    requires { ⌜ at + 2 * length (now s) ≤ length (now out) ⌝ }
+    ensures { λ r. ⌜ r ≡ at + digitsOf Shown.Octets (length (now (s .entry))) ⌝ }
 {
-    match shown {
-        Shown::Places => s.len(),
-        Shown::Bits => (s.len() + 7) / 8 * 2,
-        Shown::Octets => s.len() * 2,
+    let mut k = 0;
+    while k < s.len() {
+        put_octet(s[k], out, at + 2 * k);
+        k += 1;
+    }
+    at + 2 * k
+}
+
+fn put_octet(octet: u8, out: &mut [u8], at: usize)
+    requires { ⌜ at + 2 ≤ length (now out) ⌝ }
+{
+    let next = put_one(character(octet / 16), out, at);
+    put_one(character(octet % 16), out, next);
+}
+
+// Every four bits are joined in two steps. What the first gives waits behind the digits, where the
+// output has room and nothing stands yet.
+fn put_bits(s: &[u8], out: &mut [u8], at: usize) -> usize
+    requires { ⌜ at + 2 * length (now s) ≤ length (now out) ⌝ }
+    ensures { λ r. ⌜ (r ≡ at + digitsOf Shown.Bits (length (now (s .entry)))) × (r ≤ at + 2 * length (now (s .entry))) ⌝ }
+{
+    let n = s.len() / 4;
+    put_twos(s, 2 * n, out, at + n);
+    put_fours(n, out, at);
+    put_last(s, n, out, at)
+}
+
+fn put_twos(s: &[u8], n: usize, out: &mut [u8], at: usize)
+    requires { ⌜ (2 * n ≤ length (now s)) × (at + n ≤ length (now out)) ⌝ }
+{
+    let mut k = 0;
+    while k < n {
+        out[at + k] = joined(s, 2 * k, 513);
+        k += 1;
     }
 }
 
-// The remainder changes nothing in an octet that can be shown (`largest`).
-fn digit(shown: Shown, s: &[u8], k: usize) -> u8
-    requires { ⌜ k < digitsOf shown (length (now s)) ⌝ }
-    ensures { λ r. ⌜ r < 16 ⌝ }
+// The twos begin behind n digits.
+fn put_fours(n: usize, out: &mut [u8], at: usize)
+    requires { ⌜ at + 3 * n ≤ length (now out) ⌝ }
 {
-    match shown {
-        Shown::Places => s[k] % 10,
-        Shown::Bits => four(s, 4 * k),
-        Shown::Octets => half(s[k / 2], k % 2),
+    let mut k = 0;
+    while k < n {
+        out[at + k] = character(joined(out, at + n + 2 * k, 1025) % 16);
+        k += 1;
     }
+}
+
+// The digits behind the first n, which whole fours stand for, and the place behind all of them.
+fn put_last(s: &[u8], n: usize, out: &mut [u8], at: usize) -> usize
+    requires { ⌜ (n ≤ length (now s)) × (at + 2 * length (now s) ≤ length (now out)) ⌝ }
+    ensures { λ r. ⌜ (r ≡ at + digitsOf Shown.Bits (length (now (s .entry)))) × (r ≤ at + 2 * length (now (s .entry))) ⌝ }
+{
+    let end = (s.len() + 7) / 8 * 2;
+    let mut k = n;
+    while k < end {
+        out[at + k] = character(four(s, 4 * k));
+        k += 1;
+    }
+    at + end
 }
 
 // The digit that four bits from `at` on stand for.
@@ -75,40 +131,31 @@ fn four(s: &[u8], at: usize) -> u8
     requires { ⌜ at ≤ length (now s) + 8 ⌝ }
     ensures { λ r. ⌜ r < 16 ⌝ }
 {
-    let mut row = [0u8; 4];
-    let mut i = 0;
-    while i < 4 {
-        row[i] = bit(s, at + i);
-        i += 1;
-    }
-    bits::inner::get_number(&row, 0, 4) as u8
+    8 * bit(s, at) + 4 * bit(s, at + 1) + 2 * bit(s, at + 2) + bit(s, at + 3)
 }
 
-// Behind the last bit there are zeros. The mask changes nothing in an octet that can be shown (`largest`).
+// Behind the last bit there are zeros.
 fn bit(s: &[u8], at: usize) -> u8
     ensures { λ r. ⌜ r < 2 ⌝ }
 {
     if at < s.len() {
-        return s[at] & 1;
+        return s[at] % 2;
     }
     0
-}
-
-// The high half of an octet or the low one.
-fn half(octet: u8, which: usize) -> u8
-    ensures { λ r. ⌜ r < 16 ⌝ }
-{
-    if which == 0 {
-        return octet >> 4;
-    }
-    octet & 15
 }
 
 fn character(digit: u8) -> u8
     requires { ⌜ digit < 16 ⌝ }
 {
+    b'0' + digit + gap(digit)
+}
+
+// The octets between the digits and the letters, for a letter.
+fn gap(digit: u8) -> u8
+    ensures { λ r. ⌜ r ≤ 39 ⌝ }
+{
     if digit < 10 {
-        return b'0' + digit;
+        return 0;
     }
-    b'a' + (digit - 10)
+    b'a' - b'0' - 10
 }

@@ -1,9 +1,12 @@
 // What the words of a request hold: numbers, bits and octets.
 use crate::faults::Fault;
+use crate::octets::joined;
 use crate::octets::least;
 use crate::octets::same;
 use bits::inner::to_usize;
-ghost use Prim.Native.Nat.{_*_, _≤_};
+use std::num::wrapping_add_u8;
+use std::num::wrapping_sub_u8;
+ghost use Prim.Native.Nat.{_+_, _*_, _≤_, _<_};
 ghost use mathlib.Core.Path.{_≡_};
 ghost use lib.ListN.{length};
 ghost use Rattle.text.specs.Words.{valueOf};
@@ -37,32 +40,46 @@ pub fn keep(value: usize, numbers: &mut [usize], k: usize) -> usize {
     k
 }
 
-// Above every digit's value, and with a bit that none of them has.
-const NO_DIGIT: u8 = 16;
-
-// The value of a hexadecimal digit, in either case.
-fn digit(octet: u8) -> u8
-    ensures { λ r. ⌜ r ≤ 16 ⌝ }
-{
-    match octet {
-        b'0'..=b'9' => octet - b'0',
-        b'a'..=b'f' => octet - b'a' + 10,
-        b'A'..=b'F' => octet - b'A' + 10,
-        _ => NO_DIGIT,
-    }
-}
-
-fn decimal_digit(octet: u8) -> u8
-    ensures { λ r. ⌜ r ≤ 16 ⌝ }
-{
-    match octet {
-        b'0'..=b'9' => octet - b'0',
-        _ => NO_DIGIT,
-    }
-}
-
 pub fn is_digit(octet: u8) -> bool {
-    decimal_digit(octet) < NO_DIGIT
+    wrapping_sub_u8(octet, b'0') < 10
+}
+
+// How far an octet lies behind `a`, in either case: one bit is all that they differ in. What lies
+// before it is far behind.
+fn letter(octet: u8) -> u8 {
+    wrapping_sub_u8(octet | 32, b'a')
+}
+
+// The value of a hexadecimal digit. There is no branch here and in `excess`, so that many digits are
+// read at once.
+fn digit(octet: u8) -> u8 {
+    lesser(
+        wrapping_sub_u8(octet, b'0'),
+        wrapping_add_u8(letter(octet), 10),
+    )
+}
+
+// How far an octet lies behind the hexadecimal digits: 0 for a digit and for no other.
+fn excess(octet: u8) -> u8 {
+    lesser(
+        over(wrapping_sub_u8(octet, b'0'), 9),
+        over(letter(octet), 5),
+    )
+}
+
+fn lesser(a: u8, b: u8) -> u8 {
+    if a < b {
+        return a;
+    }
+    b
+}
+
+// By how much x is over `most`.
+fn over(x: u8, most: u8) -> u8 {
+    if x < most {
+        return 0;
+    }
+    x - most
 }
 
 // A number has at most 64 bits, as a `usize` has.
@@ -73,17 +90,31 @@ pub fn number(word: &[u8]) -> Parsed {
     let mut value: usize = 0;
     let mut i = 0;
     while i < word.len() {
-        let d = to_usize(decimal_digit(word[i]));
-        if d > 9 {
+        if !is_digit(word[i]) {
             return Parsed::Bad(Fault::Number);
         }
-        if value > (usize::MAX - d) / 10 {
-            return Parsed::Bad(Fault::Number);
+        let d = to_usize(word[i] % 16);
+        let next = with_digit(value, d);
+        if let Parsed::Bad(_) = next {
+            return next;
         }
-        value = value * 10 + d;
+        value = value_of(next);
         i += 1;
     }
     Parsed::Value(value)
+}
+
+// A number with one more digit. Most are far from the top, which is quickly seen.
+fn with_digit(value: usize, d: usize) -> Parsed
+    requires { ⌜ d < 16 ⌝ }
+{
+    if value < usize::MAX / 16 {
+        return Parsed::Value(value * 10 + d);
+    }
+    if value > (usize::MAX - d) / 10 {
+        return Parsed::Bad(Fault::Number);
+    }
+    Parsed::Value(value * 10 + d)
 }
 
 // A mask has 1 to 16 hexadecimal digits, so that none goes over the top of a `usize`.
@@ -94,11 +125,10 @@ pub fn mask(word: &[u8]) -> Parsed {
     let mut value: usize = 0;
     let mut i = 0;
     while i < word.len() {
-        let d = to_usize(digit(word[i]));
-        if d > 15 {
+        if excess(word[i]) > 0 {
             return Parsed::Bad(Fault::Number);
         }
-        value = (value << 4) | d;
+        value = (value << 4) | to_usize(digit(word[i]));
         i += 1;
     }
     Parsed::Value(value)
@@ -206,15 +236,14 @@ fn decimal_octets(digits: &[u8], store: &mut [u8]) -> Parsed
 fn all_digits(digits: &[u8], store: &mut [u8]) -> bool
     requires { ⌜ length (now digits) ≤ length (now store) ⌝ }
 {
-    let mut seen = 0u8;
+    let mut good = true;
     let mut i = 0;
     while i < digits.len() {
-        let d = decimal_digit(digits[i]);
-        store[i] = d;
-        seen = seen | d;
+        store[i] = digits[i] % 16;
+        good = good & is_digit(digits[i]);
         i += 1;
     }
-    seen < NO_DIGIT
+    good
 }
 
 // Half an octet takes the room of a whole one, so it is too long before it is half an octet.
@@ -239,14 +268,71 @@ fn hexadecimal_octets(digits: &[u8], store: &mut [u8], other: Fault) -> Parsed
 fn all_pairs(digits: &[u8], store: &mut [u8]) -> bool
     requires { ⌜ length (now digits) ≤ 2 * length (now store) ⌝ }
 {
-    let mut seen = 0u8;
+    if digits.len() < 32 {
+        return few_pairs(digits, store);
+    }
+    many_pairs(digits, store)
+}
+
+fn few_pairs(digits: &[u8], store: &mut [u8]) -> bool
+    requires { ⌜ length (now digits) ≤ 2 * length (now store) ⌝ }
+{
+    let mut other = 0u8;
     let mut i = 0;
     while i < digits.len() / 2 {
-        let high = digit(digits[2 * i]);
-        let low = digit(digits[2 * i + 1]);
-        store[i] = (high << 4) | low;
-        seen = seen | high | low;
+        let high = digits[2 * i];
+        let low = digits[2 * i + 1];
+        store[i] = (digit(high) << 4) | digit(low);
+        other = other | excess(high) | excess(low);
         i += 1;
     }
-    seen < NO_DIGIT
+    other == 0
+}
+
+// Sixteen pairs at once; the last sixteen end with the digits, so some of them are read twice.
+fn many_pairs(digits: &[u8], store: &mut [u8]) -> bool
+    requires { ⌜ (32 ≤ length (now digits)) × (length (now digits) ≤ 2 * length (now store)) ⌝ }
+{
+    let last = digits.len() - 32;
+    let mut good = true;
+    let mut at = 0;
+    while at < digits.len() {
+        let from = least(at, last);
+        good = good & sixteen_pairs(digits, from, store);
+        at += 32;
+    }
+    good
+}
+
+// The digits from `from` on, of which an even count stands before it.
+fn sixteen_pairs(digits: &[u8], from: usize, store: &mut [u8]) -> bool
+    requires { ⌜ (from + 32 ≤ length (now digits)) × (length (now digits) ≤ 2 * length (now store)) ⌝ }
+{
+    let mut row = [0u8; 32];
+    let good = all_values(digits, from, &mut row);
+    put_pairs(&row, store, from / 2);
+    good
+}
+
+fn all_values(digits: &[u8], from: usize, row: &mut [u8; 32]) -> bool
+    requires { ⌜ from + 32 ≤ length (now digits) ⌝ }
+{
+    let mut other = 0u8;
+    let mut k = 0;
+    while k < 32 {
+        row[k] = digit(digits[from + k]);
+        other = other | excess(digits[from + k]);
+        k += 1;
+    }
+    other == 0
+}
+
+fn put_pairs(row: &[u8; 32], store: &mut [u8], at: usize)
+    requires { ⌜ at + 16 ≤ length (now store) ⌝ }
+{
+    let mut i = 0;
+    while i < 16 {
+        store[at + i] = joined(row, 2 * i, 4097);
+        i += 1;
+    }
 }

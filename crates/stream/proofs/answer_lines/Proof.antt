@@ -2,7 +2,6 @@
 use Prim.Native.Nat.{_-_}
 use mathlib.Core.Path.{_≡_}
 use lib.ListN.{length}
-use native.Mathlib.Omega.{arith}
 use borrow.Author.Needs.{needs}
 use Rattle.stream.specs.Room.{Stands}
 use Rattle.stream.proofs.answer_lines.Statement.{statement}
@@ -52,8 +51,17 @@ same-length-5 c = search needs
 returns : tie.Need-returns Inv-loop μ-loop
 returns c = search needs
 
-answer-line-requires : tie.Need-answer-line-requires Inv-loop μ-loop
-answer-line-requires c κs = search needs
+sub-answer-piece : tie.Need-sub-answer-piece Inv-loop μ-loop
+sub-answer-piece c = search needs
+
+part-answer-piece-start : tie.Need-part-answer-piece-start Inv-loop μ-loop
+part-answer-piece-start c = search needs
+
+part-answer-piece-end : tie.Need-part-answer-piece-end Inv-loop μ-loop
+part-answer-piece-end c = search needs
+
+answer-piece-requires : tie.Need-answer-piece-requires Inv-loop μ-loop
+answer-piece-requires c κs = search needs
 
 same-length-6 : tie.Need-same-length-6 Inv-loop μ-loop
 same-length-6 c = search needs
@@ -73,9 +81,8 @@ same-length-10 c = search needs
 returns-2 : tie.Need-returns-2 Inv-loop μ-loop
 returns-2 c = search needs
 
--- what `find` ensures lies too far back for the search
 add-from : tie.Need-add-from Inv-loop μ-loop
-add-from c = omega (arith, c .before .before .before .before .before .before .before .before .before .before .before .before .before .before .before .before .before .before .before .before .before)
+add-from c = search needs
 
 loop-less : tie.Need-loop-less Inv-loop μ-loop
 loop-less c = search needs
@@ -119,7 +126,10 @@ answer-lines-spec =
     same-length-4
     same-length-5
     returns
-    answer-line-requires
+    sub-answer-piece
+    part-answer-piece-start
+    part-answer-piece-end
+    answer-piece-requires
     same-length-6
     same-length-7
     same-length-8

@@ -18,11 +18,11 @@ abbrev μ-loop : tie.MeasureT-loop
 nothing-requires : tie.Need-nothing-requires Inv-loop μ-loop
 nothing-requires c κs = search needs
 
-find-requires : tie.Need-find-requires Inv-loop μ-loop
-find-requires c κs = search needs
+find-near-requires : tie.Need-find-near-requires Inv-loop μ-loop
+find-near-requires c κs = search needs
 
-find-requires-2 : tie.Need-find-requires-2 Inv-loop μ-loop
-find-requires-2 c κs = search needs
+find-near-requires-2 : tie.Need-find-near-requires-2 Inv-loop μ-loop
+find-near-requires-2 c κs = search needs
 
 loop-holds : tie.Need-loop-holds Inv-loop μ-loop
 loop-holds c = search needs
@@ -30,17 +30,29 @@ loop-holds c = search needs
 add-name : tie.Need-add-name Inv-loop μ-loop
 add-name c = search needs
 
+sub-is-optional : tie.Need-sub-is-optional Inv-loop μ-loop
+sub-is-optional c = search needs
+
+part-is-optional-start : tie.Need-part-is-optional-start Inv-loop μ-loop
+part-is-optional-start c = search needs
+
+part-is-optional-end : tie.Need-part-is-optional-end Inv-loop μ-loop
+part-is-optional-end c = search needs
+
+is-optional-requires : tie.Need-is-optional-requires Inv-loop μ-loop
+is-optional-requires c κs = search needs
+
 add-least : tie.Need-add-least Inv-loop μ-loop
 add-least c = search needs
 
 least-requires : tie.Need-least-requires Inv-loop μ-loop
 least-requires c κs = search needs
 
-find-requires-3 : tie.Need-find-requires-3 Inv-loop μ-loop
-find-requires-3 c κs = search needs
+find-near-requires-3 : tie.Need-find-near-requires-3 Inv-loop μ-loop
+find-near-requires-3 c κs = search needs
 
-find-requires-4 : tie.Need-find-requires-4 Inv-loop μ-loop
-find-requires-4 c κs = search needs
+find-requires : tie.Need-find-requires Inv-loop μ-loop
+find-requires c κs = search needs
 
 sub-read-word : tie.Need-sub-read-word Inv-loop μ-loop
 sub-read-word c = search needs
@@ -84,6 +96,39 @@ loop-less c = search needs
 loop-again : tie.Need-loop-again Inv-loop μ-loop
 loop-again c = search needs
 
+least-requires-2 : tie.Need-least-requires-2 Inv-loop μ-loop
+least-requires-2 c κs = search needs
+
+from-requires : tie.Need-from-requires Inv-loop μ-loop
+from-requires c κs = search needs
+
+sub-read : tie.Need-sub-read Inv-loop μ-loop
+sub-read c = search needs
+
+part-read-start : tie.Need-part-read-start Inv-loop μ-loop
+part-read-start c = search needs
+
+part-read-end : tie.Need-part-read-end Inv-loop μ-loop
+part-read-end c = search needs
+
+mul-read : tie.Need-mul-read Inv-loop μ-loop
+mul-read c = search needs
+
+sub-read-2 : tie.Need-sub-read-2 Inv-loop μ-loop
+sub-read-2 c = search needs
+
+part-read-start-2 : tie.Need-part-read-start-2 Inv-loop μ-loop
+part-read-start-2 c = search needs
+
+part-read-end-2 : tie.Need-part-read-end-2 Inv-loop μ-loop
+part-read-end-2 c = search needs
+
+read-requires : tie.Need-read-requires Inv-loop μ-loop
+read-requires c κs = search needs
+
+with-requires : tie.Need-with-requires Inv-loop μ-loop
+with-requires c κs = search needs
+
 same-length-4 : tie.Need-same-length-4 Inv-loop μ-loop
 same-length-4 c = search needs
 
@@ -103,14 +148,18 @@ read-words-spec =
     Inv-loop
     μ-loop
     nothing-requires
-    find-requires
-    find-requires-2
+    find-near-requires
+    find-near-requires-2
     loop-holds
     add-name
+    sub-is-optional
+    part-is-optional-start
+    part-is-optional-end
+    is-optional-requires
     add-least
     least-requires
-    find-requires-3
-    find-requires-4
+    find-near-requires-3
+    find-requires
     sub-read-word
     part-read-word-start
     part-read-word-end
@@ -125,6 +174,17 @@ read-words-spec =
     keep-requires
     loop-less
     loop-again
+    least-requires-2
+    from-requires
+    sub-read
+    part-read-start
+    part-read-end
+    mul-read
+    sub-read-2
+    part-read-start-2
+    part-read-end-2
+    read-requires
+    with-requires
     same-length-4
     same-length-5
     same-length-6

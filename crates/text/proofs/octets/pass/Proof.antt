@@ -17,8 +17,8 @@ loop-holds c = search needs
 sub-loop : tie.Need-sub-loop Inv-loop μ-loop
 sub-loop c = search needs
 
-has-requires : tie.Need-has-requires Inv-loop μ-loop
-has-requires c κs = search needs
+is-in-16-requires : tie.Need-is-in-16-requires Inv-loop μ-loop
+is-in-16-requires c κs = search needs
 
 returns : tie.Need-returns Inv-loop μ-loop
 returns c = search needs
@@ -43,7 +43,7 @@ pass-spec =
     μ-loop
     loop-holds
     sub-loop
-    has-requires
+    is-in-16-requires
     returns
     add-i
     loop-less

@@ -15,20 +15,17 @@ abbrev μ-loop : tie.MeasureT-loop
 loop-holds : tie.Need-loop-holds Inv-loop μ-loop
 loop-holds c = search needs
 
-find-requires : tie.Need-find-requires Inv-loop μ-loop
-find-requires c κs = search needs
+find-near-requires : tie.Need-find-near-requires Inv-loop μ-loop
+find-near-requires c κs = search needs
 
-sub-behind : tie.Need-sub-behind Inv-loop μ-loop
-sub-behind c = search needs
+sub-default : tie.Need-sub-default Inv-loop μ-loop
+sub-default c = search needs
 
-part-behind-start : tie.Need-part-behind-start Inv-loop μ-loop
-part-behind-start c = search needs
+part-default-start : tie.Need-part-default-start Inv-loop μ-loop
+part-default-start c = search needs
 
-part-behind-end : tie.Need-part-behind-end Inv-loop μ-loop
-part-behind-end c = search needs
-
-behind-requires : tie.Need-behind-requires Inv-loop μ-loop
-behind-requires c κs = search needs
+part-default-end : tie.Need-part-default-end Inv-loop μ-loop
+part-default-end c = search needs
 
 default-requires : tie.Need-default-requires Inv-loop μ-loop
 default-requires c κs = search needs
@@ -58,11 +55,10 @@ put-defaults-spec =
     Inv-loop
     μ-loop
     loop-holds
-    find-requires
-    sub-behind
-    part-behind-start
-    part-behind-end
-    behind-requires
+    find-near-requires
+    sub-default
+    part-default-start
+    part-default-end
     default-requires
     keep-requires
     add-at

@@ -12,9 +12,6 @@ Inv-loop form line numbers₀ at₀ numbers at = length numbers ≡ length numbe
 abbrev μ-loop : tie.MeasureT-loop
 μ-loop form line numbers₀ at₀ numbers at = length line - at
 
-put-defaults-requires : tie.Need-put-defaults-requires Inv-loop μ-loop
-put-defaults-requires c κs = search needs
-
 loop-holds : tie.Need-loop-holds Inv-loop μ-loop
 loop-holds c = search needs
 
@@ -66,7 +63,6 @@ read-all-spec =
     (tie.spec
     Inv-loop
     μ-loop
-    put-defaults-requires
     loop-holds
     find-requires
     sub-read-word

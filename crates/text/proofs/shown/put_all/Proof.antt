@@ -1,68 +1,58 @@
--- `text::shown::put_all` meets its contract. The loop's invariant: `out` keeps its length, and `k` is at most `n`.
-use Prim.Native.Nat.{_-_, _≤_}
-use mathlib.Core.Path.{_≡_}
-use lib.ListN.{length}
+-- `text::shown::put_all` meets its contract: each arm of the `match` knows its variant.
+use native.Mathlib.Omega.{arith}
 use borrow.Author.Needs.{needs}
 use Rattle.text.proofs.shown.put_all.Statement.{statement}
 use Rattle.text.proofs.shown.put_all.Tie as tie
 
-abbrev Inv-loop : tie.InvT-loop
-Inv-loop shown s out₀ at n k₀ out k = (length out ≡ length out₀) × (k ≤ n)
+enum-told : tie.Need-enum-told
+enum-told c = search needs
 
-abbrev μ-loop : tie.MeasureT-loop
-μ-loop shown s out₀ at n k₀ out k = n - k
+put-places-requires : tie.Need-put-places-requires
+put-places-requires c κs = search needs
 
-count-requires : tie.Need-count-requires Inv-loop μ-loop
-count-requires c κs = search needs
+enum-told-2 : tie.Need-enum-told-2
+enum-told-2 c = search needs
 
-loop-holds : tie.Need-loop-holds Inv-loop μ-loop
-loop-holds c = search needs
+put-bits-requires : tie.Need-put-bits-requires
+put-bits-requires c κs = search needs
 
-digit-requires : tie.Need-digit-requires Inv-loop μ-loop
-digit-requires c κs = search needs
+enum-told-3 : tie.Need-enum-told-3
+enum-told-3 c = search needs
 
-character-requires : tie.Need-character-requires Inv-loop μ-loop
-character-requires c κs = search needs
+put-octets-requires : tie.Need-put-octets-requires
+put-octets-requires c κs = search needs
 
-add-out : tie.Need-add-out Inv-loop μ-loop
-add-out c = search needs
-
-slice-write-out : tie.Need-slice-write-out Inv-loop μ-loop
-slice-write-out c = search needs
-
-add-k : tie.Need-add-k Inv-loop μ-loop
-add-k c = search needs
-
-loop-less : tie.Need-loop-less Inv-loop μ-loop
-loop-less c = search needs
-
-loop-again : tie.Need-loop-again Inv-loop μ-loop
-loop-again c = search needs
-
-add-result : tie.Need-add-result Inv-loop μ-loop
-add-result c = search needs
-
-same-length : tie.Need-same-length Inv-loop μ-loop
+same-length : tie.Need-same-length
 same-length c = search needs
 
-returns : tie.Need-returns Inv-loop μ-loop
-returns c = search needs
+returns : tie.Need-returns
+returns c = rw (c .before .before .before .before .enum-told .given .1) (c .before .before .put-places .ensures, omega (arith, c .before .before .put-places .ensures))
+
+same-length-2 : tie.Need-same-length-2
+same-length-2 c = search needs
+
+returns-2 : tie.Need-returns-2
+returns-2 c = rw (c .before .before .before .before .enum-told2 .given .1) (c .before .before .put-bits .ensures)
+
+same-length-3 : tie.Need-same-length-3
+same-length-3 c = search needs
+
+returns-3 : tie.Need-returns-3
+returns-3 c = rw (c .before .before .before .before .enum-told3 .given .1) (c .before .before .put-octets .ensures, omega (arith, c .before .before .put-octets .ensures))
 
 pub put-all-spec : {M : Type 1} → statement M
 put-all-spec =
     tie.close
     (tie.spec
-    Inv-loop
-    μ-loop
-    count-requires
-    loop-holds
-    digit-requires
-    character-requires
-    add-out
-    slice-write-out
-    add-k
-    loop-less
-    loop-again
-    add-result
+    enum-told
+    put-places-requires
+    enum-told-2
+    put-bits-requires
+    enum-told-3
+    put-octets-requires
     same-length
-    returns)
+    returns
+    same-length-2
+    returns-2
+    same-length-3
+    returns-3)

@@ -7,22 +7,25 @@ use Rattle.text.proofs.values.all_digits.Statement.{statement}
 use Rattle.text.proofs.values.all_digits.Tie as tie
 
 abbrev Inv-loop : tie.InvT-loop
-Inv-loop digits store₀ seen₀ i₀ store seen i = (length store ≡ length store₀) × (i ≤ length digits)
+Inv-loop digits store₀ good₀ i₀ store good i = (length store ≡ length store₀) × (i ≤ length digits)
 
 abbrev μ-loop : tie.MeasureT-loop
-μ-loop digits store₀ seen₀ i₀ store seen i = length digits - i
+μ-loop digits store₀ good₀ i₀ store good i = length digits - i
 
 loop-holds : tie.Need-loop-holds Inv-loop μ-loop
 loop-holds c = search needs
 
-shared-slice-read-decimal-digit : tie.Need-shared-slice-read-decimal-digit Inv-loop μ-loop
-shared-slice-read-decimal-digit c = search needs
-
-decimal-digit-requires : tie.Need-decimal-digit-requires Inv-loop μ-loop
-decimal-digit-requires c κs = search needs
+shared-slice-read-store : tie.Need-shared-slice-read-store Inv-loop μ-loop
+shared-slice-read-store c = search needs
 
 slice-write-store : tie.Need-slice-write-store Inv-loop μ-loop
 slice-write-store c = search needs
+
+shared-slice-read-is-digit : tie.Need-shared-slice-read-is-digit Inv-loop μ-loop
+shared-slice-read-is-digit c = search needs
+
+is-digit-requires : tie.Need-is-digit-requires Inv-loop μ-loop
+is-digit-requires c κs = search needs
 
 add-i : tie.Need-add-i Inv-loop μ-loop
 add-i c = search needs
@@ -46,9 +49,10 @@ all-digits-spec =
     Inv-loop
     μ-loop
     loop-holds
-    shared-slice-read-decimal-digit
-    decimal-digit-requires
+    shared-slice-read-store
     slice-write-store
+    shared-slice-read-is-digit
+    is-digit-requires
     add-i
     loop-less
     loop-again

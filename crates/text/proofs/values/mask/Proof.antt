@@ -20,6 +20,15 @@ returns c = search needs
 loop-holds : tie.Need-loop-holds Inv-loop μ-loop
 loop-holds c = search needs
 
+shared-slice-read-excess : tie.Need-shared-slice-read-excess Inv-loop μ-loop
+shared-slice-read-excess c = search needs
+
+excess-requires : tie.Need-excess-requires Inv-loop μ-loop
+excess-requires c κs = search needs
+
+returns-2 : tie.Need-returns-2 Inv-loop μ-loop
+returns-2 c = search needs
+
 shared-slice-read-digit : tie.Need-shared-slice-read-digit Inv-loop μ-loop
 shared-slice-read-digit c = search needs
 
@@ -28,9 +37,6 @@ digit-requires c κs = search needs
 
 to-usize-requires : tie.Need-to-usize-requires Inv-loop μ-loop
 to-usize-requires c κs = search needs
-
-returns-2 : tie.Need-returns-2 Inv-loop μ-loop
-returns-2 c = search needs
 
 add-i : tie.Need-add-i Inv-loop μ-loop
 add-i c = search needs
@@ -53,10 +59,12 @@ mask-spec =
     is-within-requires
     returns
     loop-holds
+    shared-slice-read-excess
+    excess-requires
+    returns-2
     shared-slice-read-digit
     digit-requires
     to-usize-requires
-    returns-2
     add-i
     loop-less
     loop-again

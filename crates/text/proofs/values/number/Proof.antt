@@ -17,29 +17,35 @@ returns c = search needs
 loop-holds : tie.Need-loop-holds Inv-loop μ-loop
 loop-holds c = search needs
 
-shared-slice-read-decimal-digit : tie.Need-shared-slice-read-decimal-digit Inv-loop μ-loop
-shared-slice-read-decimal-digit c = search needs
+shared-slice-read-is-digit : tie.Need-shared-slice-read-is-digit Inv-loop μ-loop
+shared-slice-read-is-digit c = search needs
 
-decimal-digit-requires : tie.Need-decimal-digit-requires Inv-loop μ-loop
-decimal-digit-requires c κs = search needs
-
-to-usize-requires : tie.Need-to-usize-requires Inv-loop μ-loop
-to-usize-requires c κs = search needs
+is-digit-requires : tie.Need-is-digit-requires Inv-loop μ-loop
+is-digit-requires c κs = search needs
 
 returns-2 : tie.Need-returns-2 Inv-loop μ-loop
 returns-2 c = search needs
 
-sub-if3 : tie.Need-sub-if3 Inv-loop μ-loop
-sub-if3 c = search needs
+shared-slice-read-to-usize : tie.Need-shared-slice-read-to-usize Inv-loop μ-loop
+shared-slice-read-to-usize c = search needs
+
+to-usize-requires : tie.Need-to-usize-requires Inv-loop μ-loop
+to-usize-requires c κs = search needs
+
+with-digit-requires : tie.Need-with-digit-requires Inv-loop μ-loop
+with-digit-requires c κs = search needs
+
+enum-told : tie.Need-enum-told Inv-loop μ-loop
+enum-told c = search needs
 
 returns-3 : tie.Need-returns-3 Inv-loop μ-loop
 returns-3 c = search needs
 
-mul-value : tie.Need-mul-value Inv-loop μ-loop
-mul-value c = search needs
+enum-told-2 : tie.Need-enum-told-2 Inv-loop μ-loop
+enum-told-2 c = search needs
 
-add-value : tie.Need-add-value Inv-loop μ-loop
-add-value c = search needs
+value-of-requires : tie.Need-value-of-requires Inv-loop μ-loop
+value-of-requires c κs = search needs
 
 add-i : tie.Need-add-i Inv-loop μ-loop
 add-i c = search needs
@@ -61,14 +67,16 @@ number-spec =
     μ-loop
     returns
     loop-holds
-    shared-slice-read-decimal-digit
-    decimal-digit-requires
-    to-usize-requires
+    shared-slice-read-is-digit
+    is-digit-requires
     returns-2
-    sub-if3
+    shared-slice-read-to-usize
+    to-usize-requires
+    with-digit-requires
+    enum-told
     returns-3
-    mul-value
-    add-value
+    enum-told-2
+    value-of-requires
     add-i
     loop-less
     loop-again

@@ -1,14 +1,14 @@
--- `text::octets::has` meets its contract. The loop's invariant: `k` is at most 16.
+-- `text::octets::is_in_64` meets its contract. The loop's invariant: `k` is at most 64.
 use Prim.Native.Nat.{_-_, _≤_}
 use borrow.Author.Needs.{needs}
-use Rattle.text.proofs.octets.has.Statement.{statement}
-use Rattle.text.proofs.octets.has.Tie as tie
+use Rattle.text.proofs.octets.is_in_64.Statement.{statement}
+use Rattle.text.proofs.octets.is_in_64.Tie as tie
 
 abbrev Inv-loop : tie.InvT-loop
-Inv-loop s at octet found₀ k₀ found k = k ≤ 16
+Inv-loop s at octet found₀ k₀ found k = k ≤ 64
 
 abbrev μ-loop : tie.MeasureT-loop
-μ-loop s at octet found₀ k₀ found k = 16 - k
+μ-loop s at octet found₀ k₀ found k = 64 - k
 
 loop-holds : tie.Need-loop-holds Inv-loop μ-loop
 loop-holds c = search needs
@@ -18,9 +18,6 @@ add-found c = search needs
 
 shared-slice-read-found : tie.Need-shared-slice-read-found Inv-loop μ-loop
 shared-slice-read-found c = search needs
-
-cast-found : tie.Need-cast-found Inv-loop μ-loop
-cast-found c = search needs
 
 add-k : tie.Need-add-k Inv-loop μ-loop
 add-k c = search needs
@@ -34,8 +31,8 @@ loop-again c = search needs
 returns : tie.Need-returns Inv-loop μ-loop
 returns c = search needs
 
-pub has-spec : {M : Type 1} → statement M
-has-spec =
+pub is-in-64-spec : {M : Type 1} → statement M
+is-in-64-spec =
     tie.close
     (tie.spec
     Inv-loop
@@ -43,7 +40,6 @@ has-spec =
     loop-holds
     add-found
     shared-slice-read-found
-    cast-found
     add-k
     loop-less
     loop-again

@@ -1,9 +1,9 @@
--- `text::octets::find` meets its contract. The loop's invariant: `i` lies between `from` and the end.
+-- `text::octets::pass_long` meets its contract. The loop's invariant: `i` lies between `from` and the end.
 use Prim.Native.Nat.{_-_, _≤_}
 use lib.ListN.{length}
 use borrow.Author.Needs.{needs}
-use Rattle.text.proofs.octets.find.Statement.{statement}
-use Rattle.text.proofs.octets.find.Tie as tie
+use Rattle.text.proofs.octets.pass_long.Statement.{statement}
+use Rattle.text.proofs.octets.pass_long.Tie as tie
 
 abbrev Inv-loop : tie.InvT-loop
 Inv-loop s from octet i₀ i = (from ≤ i) × (i ≤ length s)
@@ -11,14 +11,14 @@ Inv-loop s from octet i₀ i = (from ≤ i) × (i ≤ length s)
 abbrev μ-loop : tie.MeasureT-loop
 μ-loop s from octet i₀ i = length s - i
 
-pass-requires : tie.Need-pass-requires Inv-loop μ-loop
-pass-requires c κs = search needs
-
 loop-holds : tie.Need-loop-holds Inv-loop μ-loop
 loop-holds c = search needs
 
-shared-slice-read-if1 : tie.Need-shared-slice-read-if1 Inv-loop μ-loop
-shared-slice-read-if1 c = search needs
+sub-loop : tie.Need-sub-loop Inv-loop μ-loop
+sub-loop c = search needs
+
+is-in-64-requires : tie.Need-is-in-64-requires Inv-loop μ-loop
+is-in-64-requires c κs = search needs
 
 returns : tie.Need-returns Inv-loop μ-loop
 returns c = search needs
@@ -35,15 +35,15 @@ loop-again c = search needs
 returns-2 : tie.Need-returns-2 Inv-loop μ-loop
 returns-2 c = search needs
 
-pub find-spec : {M : Type 1} → statement M
-find-spec =
+pub pass-long-spec : {M : Type 1} → statement M
+pass-long-spec =
     tie.close
     (tie.spec
     Inv-loop
     μ-loop
-    pass-requires
     loop-holds
-    shared-slice-read-if1
+    sub-loop
+    is-in-64-requires
     returns
     add-i
     loop-less

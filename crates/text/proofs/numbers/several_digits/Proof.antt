@@ -1,10 +1,10 @@
--- `text::numbers::decimal` meets its contract: 20 digits hold every number of 64 bits, and `io::decimal` writes the fewest that do.
+-- `text::numbers::several_digits` meets its contract: 20 digits hold every number of 64 bits, and `io::decimal` writes the fewest that do.
 use Prim.Native.Nat.{_≤_}
 use native.Mathlib.Omega.{arith}
 use borrow.Author.Needs.{needs}
 use Rattle.text.proofs.Digits.{few}
-use Rattle.text.proofs.numbers.decimal.Statement.{statement}
-use Rattle.text.proofs.numbers.decimal.Tie as tie
+use Rattle.text.proofs.numbers.several_digits.Statement.{statement}
+use Rattle.text.proofs.numbers.several_digits.Tie as tie
 
 short : (c : tie.After-decimal) → c .decimal .result ≤ 20
 short c = few 10 20 (omega arith) (omega arith) (omega arith) (c .decimal .ensures .1 .0)
@@ -27,8 +27,8 @@ same-length c = search needs
 returns : tie.Need-returns
 returns c = omega (arith, short (c .before .before .before .before .before))
 
-pub decimal-spec : {M : Type 1} → statement M
-decimal-spec =
+pub several-digits-spec : {M : Type 1} → statement M
+several-digits-spec =
     tie.close
     (tie.spec
     decimal-requires
