@@ -57,11 +57,18 @@ int is_asked(const struct job *job, const char *only) { return !only || strstr(j
 int has(const struct side *side, const struct job *job) {
     switch (job->kind) {
     case CRC: return side->crc != 0;
-    case SEND: return side->send != 0;
+    case CRC_OF_BITS: return side->crc_of_bits != 0;
+    case CRC_OF_BLOCK: return side->crc_of_block != 0;
+    case JUDGE: return side->judge != 0;
+    case PLAN: return side->plan != 0;
+    case MATCH: return side->match != 0;
+    case CODE: return side->code != 0;
     case CHECK: return side->check != 0;
+    case SEND: return side->send != 0;
     case RECEIVE: return side->receive != 0;
-    /* A side that leaves any other call out leaves them all out. */
-    default: return side->judge != 0;
+    case LOOKUP: return side->lookup != 0;
+    case HOSTED_SEND: return side->hosted_send != 0;
+    default: return side->hosted_receive != 0;
     }
 }
 

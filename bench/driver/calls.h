@@ -104,7 +104,11 @@ void print_times(int rounds, const char *only);
 /* For a program to read, a line for each side: job, side, nanoseconds, and what the product's time is over them. */
 void print_medians(int rounds, const char *only);
 void print_checkers(int rounds, const char *only);
+/* A row: the time of each of two sides, and what the first's is over the second's. */
+void print_pair(const struct side pair[2], const struct job *job, int rounds);
 void mark_counts(const char *only);
 void mark_places(const char *name);
 void print_depths(const char *only);
+/* The stack of each public call, at its deepest over the jobs; answered is how many calls are over what a call may use. */
+int print_deepest(void);
 #endif

@@ -1,5 +1,5 @@
 /* Puts the same calls to the product and to the baselines: driver SHELVES same COUNT | time ROUNDS [JOB] | medians ROUNDS [JOB]
-   | checkers ROUNDS [JOB] | count [JOB] | where JOB | stack [JOB] */
+   | checkers ROUNDS [JOB] | count [JOB] | where JOB | stack [JOB] | deepest */
 #include "calls.h"
 #include <stdio.h>
 #include <stdlib.h>
@@ -29,6 +29,8 @@ int main(int count, char **words) {
         mark_places(first);
     else if (!strcmp(command, "stack"))
         print_depths(first);
+    else if (!strcmp(command, "deepest"))
+        return print_deepest() ? 1 : 0;
     else
         return 2;
     return 0;

@@ -133,3 +133,11 @@ void print_checkers(int rounds, const char *only) {
             print_checkers_row(&jobs[k], rounds);
         }
 }
+
+void print_pair(const struct side pair[2], const struct job *job, int rounds) {
+    rounds = possible(rounds);
+    measure(pair, 2, job, rounds);
+    printf("%-28s %-22s %10.0f %10.0f %9.4f %6.0f%%\n", job->name, pair[1].name, times[0][rounds / 2], times[1][rounds / 2],
+           ratios[1][rounds / 2], spread(1, rounds));
+    fflush(stdout);
+}
