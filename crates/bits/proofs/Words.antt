@@ -14,7 +14,7 @@ use lib.Pow.{shr-shr}
 use lib.Seq.{getD-take, getD-drop, sets}
 use Rattle.bits.specs.Bits.{AreBits, digits, readOn, valueOf}
 use Rattle.bits.specs.steps.Words.{Fours, over, folded}
-use Rattle.bits.proofs.Lists.{length-part, bits-take, bits-drop, sets-append}
+use Rattle.bits.proofs.Lists.{length-part, sets-append}
 use Rattle.bits.proofs.Digits.{length-digits, digits-low}
 use Rattle.bits.proofs.Tables.{everyEntry, at-entry}
 

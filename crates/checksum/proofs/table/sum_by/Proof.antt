@@ -1,7 +1,7 @@
 -- `checksum::table::sum_by` meets its contract. The loop's invariant: the octets from i on, fed to the register, give what all of them give, and `at` is where
 -- the table is looked at for octet i.
 use mathlib.Core.Path.{_≡_, refl, sym, ap, _∙_}
-use Prim.Native.Nat.{ℕ, zero, _+_, _-_, _/_, _^_, _<_}
+use Prim.Native.Nat.{ℕ, _+_, _-_, _/_, _^_, _<_}
 use native.Mathlib.Nat.{zero-div}
 use native.Mathlib.Omega.{arith}
 use lib.Bits.{bitXor, xor-zero-l}

@@ -1,5 +1,4 @@
 -- `shelf::entry::pair` meets its contract.
-use native.Mathlib.Omega.{arith}
 use borrow.Author.Needs.{needs}
 use Rattle.shelf.specs.steps.Walking.{pair}
 use Rattle.shelf.proofs.entry.pair.Statement.{statement}

@@ -1,5 +1,5 @@
 -- `shelf::form::entries_right` meets its contract. The loop's invariant: every entry passed is right, and what is carried is what is due.
-use mathlib.Core.Path.{_≡_, sym, _∙_}
+use mathlib.Core.Path.{_≡_}
 use mathlib.Core.Bool.{true, false}
 use Prim.Native.Nat.{ℕ, _+_, _-_, _*_, _≤_, _<_}
 use native.Mathlib.Omega.{arith}
@@ -10,7 +10,7 @@ use borrow.Author.Needs.{needs}
 use borrow.Author.Tests.{not-true, not-false}
 use Rattle.bits.specs.Bits.{AreOctets}
 use Rattle.bits.proofs.Ranges.{all-of, all-fails}
-use Rattle.shelf.specs.Shelf.{count, offset, offsetDue, endsRight}
+use Rattle.shelf.specs.Shelf.{count, offsetDue, endsRight}
 use Rattle.shelf.specs.steps.Walking.{leastPair, entryRight, entriesRight}
 use Rattle.shelf.proofs.WellFormed.{least-next, due-after, sizes-are, entry-is, offset-small, entry-carried}
 use Rattle.shelf.proofs.form.entries_right.Statement.{statement}

@@ -1,8 +1,6 @@
 -- `shelf::form::entry_right` meets its contract.
-use mathlib.Core.Path.{_≡_, ap₂}
 use Prim.Native.Nat.{_≤_, _<_}
 use native.Mathlib.Omega.{arith}
-use lib.Dec.{eqb}
 use denote.Ref.{now}
 use borrow.Author.Needs.{needs}
 use borrow.Author.Tests.{le-leb, lt-leb}
