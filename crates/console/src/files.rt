@@ -1,5 +1,6 @@
 // Files: reading one whole, and writing a result.
 use crate::argv;
+use crate::beside;
 use crate::page;
 use crate::status;
 use libc::STDIN_FILENO;
@@ -41,10 +42,10 @@ fn failure() -> Taken {
     }
 }
 
-// Reads the file that word k names. Where it cannot be read, the reason is on standard error.
-pub fn named(k: usize, store: &mut [u8]) -> Taken {
+// Reads the file that the word with this name names. Where it cannot be read, the reason is on standard error.
+pub fn named(names: &[u8], name: &[u8], store: &mut [u8]) -> Taken {
     let mut path = io::buffer();
-    let n = os::arg(argv::place(k), &mut path);
+    let n = os::arg(argv::place(names, name), &mut path);
     if os::errno() != 0 {
         os::fail(b"kuambyte: the name of a file");
         return failure();
@@ -179,9 +180,20 @@ fn spell_one(bits: &mut [u8], i: usize)
     bits[i] = bits[i] | b'0';
 }
 
-// Writes a result, all of it at once, and answers the exit status.
+// Writes a result, all of it at once, to standard output or to the file that stands behind -o, and answers the exit status.
 pub fn write(result: &[u8]) -> i32 {
-    ended(io::write_all(STDOUT_FILENO, result))
+    let end = os::arg_count();
+    let at = argv::find(b"-o");
+    if at >= end {
+        return ended(io::write_all(STDOUT_FILENO, result));
+    }
+    let mut path = io::buffer();
+    let n = os::arg(at + 1, &mut path);
+    if os::errno() != 0 {
+        os::fail(b"kuambyte: the name of a file");
+        return status::FAILED;
+    }
+    beside::write(&path[..n], result)
 }
 
 // The exit status where a result was written, or was not.

@@ -19,7 +19,7 @@ pub fn find(list: &[u8], entry: &[u8]) -> usize {
 }
 
 // No line holds a line end, so looking for one passes them all.
-fn count(list: &[u8]) -> usize {
+pub fn count(list: &[u8]) -> usize {
     find(list, b"\n")
 }
 

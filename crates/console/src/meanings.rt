@@ -4,7 +4,7 @@ use crate::page;
 use crate::status;
 
 // The highest number that a call may answer; a number is the exit status too.
-pub const HIGHEST: u32 = 25;
+pub const HIGHEST: u32 = 26;
 
 // Puts the meaning of a number behind the text, or nothing where it has none: a line for each number, from 0 on, and an empty one where no call answers it.
 pub fn line(number: u32, page: &mut [u8], at: usize) -> usize {
@@ -28,6 +28,13 @@ the redundancy version is over 3, or is not 0 and the profile is of Type 1
 
 
 the edition is not 1 or 2
+
+
+
+
+
+
+the shelf has no room: it would have over 64 entries or 65535 octets
 ";
     page::put(list::line(all, number as usize), page, at)
 }

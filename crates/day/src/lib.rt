@@ -5,6 +5,7 @@ use bits::count::Terms;
 use bits::number::DONE;
 use bits::number::Written;
 use checking::Checker;
+use console::argv;
 use console::argv::Words;
 use console::files;
 use console::help;
@@ -31,13 +32,19 @@ const OTHER: u16 = 11;
 const THIRD: u16 = 3;
 
 pub fn run(words: Words) -> i32 {
-    if words.none {
-        return day();
+    if words.help {
+        return say(words);
     }
+    if !argv::fits(b"", 0, b"-o\n") {
+        return say(words);
+    }
+    day()
+}
+
+fn say(words: Words) -> i32 {
     help::say(
         words.help,
-        b"this command takes no words",
-        b"usage: kuambyte day
+        b"usage: kuambyte day [-o FILE]
 
 Runs the whole day on shelves/private.shelf and shelves/public.shelf and writes a line for each step: looks a profile up, sends
 a block, receives it, flips one bit and receives again, and asks as other tenants for private profiles.

@@ -1,6 +1,7 @@
 -- Agreement (document 01, "What the promises say"): "For every input, good or refused, a public call's promise names one result and one content of
 -- the lent memory, so that two implementations meeting it agree; that agreement is proved". Here for every public call.
 use mathlib.Core.Path.{_≡_}
+use mathlib.Core.Bool.{Bool}
 use mathlib.Core.List.{List}
 use Prim.Native.Nat.{ℕ}
 use denote.Ref.{RefT, now, ptr}
@@ -31,6 +32,12 @@ use Rattle.coding.proofs.Agreement.{send-agree, receive-agree}
 use Rattle.shelf.specs.Lookup.{lookupNumber}
 use Rattle.shelf.specs.Promises.{LookedUp, HostedSent, HostedReceived, HostedChecked}
 use Rattle.shelf.proofs.Agreement.{lookup-number-agree, lookup-agree, hosted-send-agree, hosted-receive-agree, hosted-check-agree}
+use Rattle.keeping.specs.Promises.{RecordPut, RecordRemoved}
+use Rattle.keeping.proofs.Agreement.{put-agree, remove-agree}
+use Rattle.rules.specs.Promises.{ShelfRule, RecordRule}
+use Rattle.rules.specs.declared.Broken.{Broken}
+use Rattle.rules.specs.declared.Wrong.{Wrong}
+use Rattle.rules.proofs.Agreement.{shelf-rule-agree, record-rule-agree}
 use Rattle.advice.specs.Promises.{LeastRoom}
 use Rattle.advice.specs.declared.Least.{Least}
 use Rattle.advice.proofs.Agreement.{least-agree}
@@ -121,3 +128,21 @@ hosted-receive a b = hosted-receive-agree a b
 pub hosted-check : {private public : List ℕ} {t p z : ℕ} {word : List ℕ} {r r' : Verdict}
     → HostedChecked private public t p z word r → HostedChecked private public t p z word r' → r ≡ r'
 hosted-check a b = hosted-check-agree a b
+
+-- ---- keeping::put_record, keeping::remove_record
+
+pub put-record : (S : List ℕ) (t p : ℕ) (R : List ℕ) {out : List ℕ} {r r' : Written} {o o' : List ℕ}
+    → RecordPut S t p R out r o → RecordPut S t p R out r' o' → (r ≡ r') × (o ≡ o')
+put-record S t p R a b = put-agree S t p R a b
+
+pub remove-record : (S : List ℕ) (t p : ℕ) {out : List ℕ} {r r' : Written} {o o' : List ℕ}
+    → RecordRemoved S t p out r o → RecordRemoved S t p out r' o' → (r ≡ r') × (o ≡ o')
+remove-record S t p a b = remove-agree S t p a b
+
+-- ---- rules::of_shelf, rules::of_record
+
+pub of-shelf : {private : Bool} {S : List ℕ} {r r' : Broken} → ShelfRule private S r → ShelfRule private S r' → r ≡ r'
+of-shelf a b = shelf-rule-agree a b
+
+pub of-record : {R : List ℕ} {r r' : Wrong} → RecordRule R r → RecordRule R r' → r ≡ r'
+of-record a b = record-rule-agree a b

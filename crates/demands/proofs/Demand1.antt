@@ -47,6 +47,8 @@ use Rattle.coding.proofs.Answers.{send-allocated}
 use Rattle.coding.proofs.RoundTrip.{sent-length}
 use Rattle.shelf.specs.Lookup.{lookupConditions, lookupNumber, lookupRecord, lookupPlace}
 use Rattle.shelf.specs.Promises.{LookedUp, HostedSent, HostedReceived, HostedChecked}
+use Rattle.keeping.specs.Entries.{shelfPut, shelfLeft}
+use Rattle.keeping.specs.Promises.{putConditions, putNumber, RecordPut, removeConditions, removeNumber, RecordRemoved}
 use Rattle.advice.specs.Promises.{leastConditions, leastNumber, LeastRoom}
 use Rattle.advice.specs.declared.Least.{Least}
 use Rattle.demands.specs.Numbers.{NoneHolds, Answers}
@@ -320,6 +322,62 @@ receive-confined {R} {a} {terms} {bits} h = outputs.confined (receive-fits R a t
 pub receive-alike : {R : List ℕ} {a : ℕ} {terms : Terms} {bits out : List ℕ} {r : Written} {o other : List ℕ} {s : Written} {u : List ℕ} → length out ≡ length other
     → Received R a terms bits out r o → Received R a terms bits other s u → Alike r o s u
 receive-alike {R} {a} {terms} {bits} e h k = outputs.alike (receive-fits R a terms bits) e (receive-writes h) (receive-writes k)
+
+-- keeping::put_record
+module _ (S : List ℕ) (t p : ℕ) (R : List ℕ) where
+  put-answers : (room : ℕ) {r : ℕ} → r ≡ putNumber S t p R room → Answers r (putConditions S t p R room)
+  unfolding putNumber Refusals
+  put-answers room q = answers (putConditions S t p R room) tt q
+
+  put-fits : outputs.Fitting (putNumber S t p R) (length (shelfPut S t p R)) (shelfPut S t p R)
+  unfolding NoneHolds
+  put-fits =
+      record {
+        size = λ room e. refl;
+        room = λ room e. let h = put-answers room (sym e) .only-done refl in ltb-false room (length (shelfPut S t p R)) (h .1 .1 .1 .1 .1 .0);
+      }
+
+  put-writes : {out : List ℕ} {r : Written} {o : List ℕ} → RecordPut S t p R out r o
+      → outputs.Writes (putNumber S t p R) (length (shelfPut S t p R)) (shelfPut S t p R) out r o
+  put-writes a = record { number = a .number; count = a .count; output = a .output }
+
+  pub put-number : {out : List ℕ} {r : Written} {o : List ℕ} → RecordPut S t p R out r o → Answers (r .number) (putConditions S t p R (length out))
+  put-number {out} a = put-answers (length out) (a .number)
+
+  pub put-confined : {out : List ℕ} {r : Written} {o : List ℕ} → RecordPut S t p R out r o → Confined out r o
+  put-confined a = outputs.confined put-fits (put-writes a)
+
+  pub put-alike : {out : List ℕ} {r : Written} {o other : List ℕ} {s : Written} {u : List ℕ} → length out ≡ length other
+      → RecordPut S t p R out r o → RecordPut S t p R other s u → Alike r o s u
+  put-alike e a b = outputs.alike put-fits e (put-writes a) (put-writes b)
+
+-- keeping::remove_record
+module _ (S : List ℕ) (t p : ℕ) where
+  remove-answers : (room : ℕ) {r : ℕ} → r ≡ removeNumber S t p room → Answers r (removeConditions S t p room)
+  unfolding removeNumber Refusals
+  remove-answers room q = answers (removeConditions S t p room) tt q
+
+  remove-fits : outputs.Fitting (removeNumber S t p) (length (shelfLeft S t p)) (shelfLeft S t p)
+  unfolding NoneHolds
+  remove-fits =
+      record {
+        size = λ room e. refl;
+        room = λ room e. let h = remove-answers room (sym e) .only-done refl in ltb-false room (length (shelfLeft S t p)) (h .1 .1 .1 .0);
+      }
+
+  remove-writes : {out : List ℕ} {r : Written} {o : List ℕ} → RecordRemoved S t p out r o
+      → outputs.Writes (removeNumber S t p) (length (shelfLeft S t p)) (shelfLeft S t p) out r o
+  remove-writes a = record { number = a .number; count = a .count; output = a .output }
+
+  pub remove-number : {out : List ℕ} {r : Written} {o : List ℕ} → RecordRemoved S t p out r o → Answers (r .number) (removeConditions S t p (length out))
+  remove-number {out} a = remove-answers (length out) (a .number)
+
+  pub remove-confined : {out : List ℕ} {r : Written} {o : List ℕ} → RecordRemoved S t p out r o → Confined out r o
+  remove-confined a = outputs.confined remove-fits (remove-writes a)
+
+  pub remove-alike : {out : List ℕ} {r : Written} {o other : List ℕ} {s : Written} {u : List ℕ} → length out ≡ length other
+      → RecordRemoved S t p out r o → RecordRemoved S t p other s u → Alike r o s u
+  remove-alike e a b = outputs.alike remove-fits e (remove-writes a) (remove-writes b)
 
 -- ---- "The hosted sending and receiving calls do a lookup first": its numbers, then those of the call on the record
 

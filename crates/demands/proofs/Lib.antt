@@ -15,3 +15,8 @@ pub mod Fifteen
 pub mod Masked
 pub mod Checkers
 pub mod Examples
+pub mod Placed
+pub mod Sorted
+pub mod Found
+pub mod Kept
+pub mod Keeping

@@ -14,13 +14,13 @@ use Rattle.demands.specs.Numbers.{rank, First, Answers, Applies, NoneBel
 
 -- a number that no request puts elsewhere
 abbrev pub Counted : ℕ → Type 0
-Counted n = (n ≡ 16 → ⊥) × (n ≡ 19 → ⊥)
+Counted n = (n ≡ 16 → ⊥) × (n ≡ 19 → ⊥) × (n ≡ 26 → ⊥)
 
 ranked : (n : ℕ) → Counted n → rank n ≡ 2 * n
 unfolding rank
-ranked n other = rw (ne-eqb n 16 (other .0), ne-eqb n 19 (other .1))
+ranked n other = rw (ne-eqb n 16 (other .0), ne-eqb n 19 (other .1), ne-eqb n 26 (other .2))
 
--- all numbers but 16 and 19 keep their order, those of document 01 among them
+-- all numbers but 16, 19 and 26 keep their order, those of document 01 among them
 module _ (a b : ℕ) (other : Counted a) (other' : Counted b) where
   pub ranks-rise : a < b → rank a < rank b
   ranks-rise h = omega (arith, ranked a other, ranked b other')
@@ -37,6 +37,11 @@ between = (lit< tt, lit< tt)
 pub before-seven : (rank 6 < rank 19) × (rank 19 < rank 7)
 unfolding rank
 before-seven = (lit< tt, lit< tt)
+
+-- 26, before 11: behind all that stand before it
+pub before-eleven : (rank 10 < rank 26) × (rank 26 < rank 11)
+unfolding rank
+before-eleven = (lit< tt, lit< tt)
 
 -- ---- lists
 

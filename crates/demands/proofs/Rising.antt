@@ -1,5 +1,6 @@
 -- "The lowest number that applies is answered", by every call of document 01 and those of CR 9, CR 4 and CR 8, 16 standing "between 7 and 8" as CR 3 has it
--- and 19 "before 7" as CR 8 has it: their lists rise by rank, so the first number whose condition holds is the lowest.
+-- and 19 "before 7" as CR 8 has it, and by the calls that keep a shelf, 26 standing before 11: their lists rise by rank, so the first number whose condition
+-- holds is the lowest.
 use mathlib.Core.Path.{_≡_, refl}
 use mathlib.Core.List.{List, _++_}
 use Prim.Native.Nat.{ℕ}
@@ -21,9 +22,10 @@ use Rattle.matching.specs.Promises.{matchConditions, RateMatched}
 use Rattle.coding.specs.Promises.{sendConditions, Sent, receiveConditions, Received}
 use Rattle.shelf.specs.Lookup.{lookupConditions, lookupNumber, lookupRecord}
 use Rattle.shelf.specs.Promises.{HostedSent, HostedReceived, HostedChecked}
+use Rattle.keeping.specs.Promises.{putConditions, RecordPut, removeConditions, RecordRemoved}
 use Rattle.demands.specs.Numbers.{rank, Lowest}
 use Rattle.demands.proofs.Lowest.{rising, lowest}
-use Rattle.demands.proofs.Demand1.{of-bits-number, of-octets-number, of-block-bits-number, sum-under-number, append-number, test-number, judge-number, plan-block-number, code-block-number, check-word-number, row-sums-number, rate-match-number, send-number, receive-number, lookup-number-number, hosted-send-number, hosted-receive-number, hosted-check-number}
+use Rattle.demands.proofs.Demand1.{of-bits-number, of-octets-number, of-block-bits-number, sum-under-number, append-number, test-number, judge-number, plan-block-number, code-block-number, check-word-number, row-sums-number, rate-match-number, send-number, receive-number, lookup-number-number, hosted-send-number, hosted-receive-number, hosted-check-number, put-number, remove-number}
 
 pub of-bits-lowest : {w : ℕ} {bits : List ℕ} {r : Sum} → OfBits w bits r
     → Lowest (r .number) (bitsConditions w bits)
@@ -114,3 +116,13 @@ pub hosted-check-lowest : {private public : List ℕ} {t p z : ℕ} {word : List
     → Lowest (r .number) (lookupConditions private public t p ++ checkConditions (lookupRecord private public t p) z word)
 unfolding rising rank
 hosted-check-lowest {private} {public} {t} {p} {z} {word} h = lowest (lookupConditions private public t p ++ checkConditions (lookupRecord private public t p) z word) refl (hosted-check-number h)
+
+pub put-lowest : (S : List ℕ) (t p : ℕ) (R : List ℕ) {out : List ℕ} {r : Written} {o : List ℕ} → RecordPut S t p R out r o
+    → Lowest (r .number) (putConditions S t p R (length out))
+unfolding rising rank
+put-lowest S t p R {out} a = lowest (putConditions S t p R (length out)) refl (put-number S t p R a)
+
+pub remove-lowest : (S : List ℕ) (t p : ℕ) {out : List ℕ} {r : Written} {o : List ℕ} → RecordRemoved S t p out r o
+    → Lowest (r .number) (removeConditions S t p (length out))
+unfolding rising rank
+remove-lowest S t p {out} a = lowest (removeConditions S t p (length out)) refl (remove-number S t p a)

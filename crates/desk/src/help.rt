@@ -1,20 +1,22 @@
-// The command `help`, and what is said where the first word names no command.
-use console::argv::Words;
+// The command `help`, and what is said where a word names no command.
 use console::files;
 use console::help;
+use console::page;
 use console::status;
 use libc::STDERR_FILENO;
 use libc::STDOUT_FILENO;
+use text::octets;
 
-pub fn run(words: Words) -> i32 {
-    if words.none | words.help {
-        return files::ended(overview(STDOUT_FILENO));
-    }
-    help::say(
-        false,
-        b"this command takes no words",
-        b"usage: kuambyte help\n",
-    )
+pub fn run() -> i32 {
+    files::ended(overview(STDOUT_FILENO))
+}
+
+pub fn too_many() -> i32 {
+    io::write_all(
+        STDERR_FILENO,
+        b"kuambyte: help takes the name of one command\n",
+    );
+    help::say(false, b"usage: kuambyte help [COMMAND]\n")
 }
 
 // No word was given. Nothing goes to standard output, so that what reads a result meets no other text.
@@ -23,12 +25,14 @@ pub fn missing() -> i32 {
     status::WRONG_WORDS
 }
 
-pub fn unknown() -> i32 {
+pub fn unknown(place: usize) -> i32 {
     let mut word = io::buffer();
-    let n = os::arg(1, &mut word);
-    io::write_all(STDERR_FILENO, b"kuambyte: unknown word '");
-    io::write_all(STDERR_FILENO, &word[..n]);
-    io::write_all(STDERR_FILENO, b"'; kuambyte help lists the commands\n");
+    let n = os::arg(place, &mut word);
+    let mut line = io::buffer();
+    let a = page::put(b"kuambyte: unknown word '", &mut line, 0);
+    let b = page::put(octets::first(&word[..n], 100), &mut line, a);
+    let c = page::put(b"'; kuambyte help lists the commands\n", &mut line, b);
+    io::write_all(STDERR_FILENO, octets::first(&line, c));
     status::WRONG_WORDS
 }
 
@@ -37,19 +41,31 @@ fn overview(fd: i32) -> bool {
         fd,
         b"kuambyte asks the proved coding library and writes what it answers.
 
-  kuambyte day       run the whole day on the shelves of the repository
+Coding, for a tenant and a profile number:
   kuambyte lookup PRIVATE PUBLIC TENANT PROFILE > record
   kuambyte send PRIVATE PUBLIC TENANT PROFILE LAYERS ORDER BITS [--rv N] [--edition N] [--text] < block > bits
   kuambyte receive PRIVATE PUBLIC TENANT PROFILE OCTETS LAYERS ORDER [--rv N] [--edition N] [--plain] [--text] < bits > block
   kuambyte check PRIVATE PUBLIC TENANT PROFILE Z [--plain] [--text] < word   write whether a word checks, or the odd rows
-  kuambyte plan RECORD OCTETS [LAYERS ORDER] [--edition N]   write how a block of so many octets is cut
-  kuambyte numbers   write what each answered number means
-  kuambyte replay    read requests, one to a line, and write an answer to each
-  kuambyte help      write this help
 
-PRIVATE and PUBLIC are shelf files. --help behind a command says more of it.
-A refusal is one line on standard error, and its number is the exit status; 64 is for wrong words, and 74 for a file that
-cannot be read or a write that failed.
+Shelves and records:
+  kuambyte shelf private|public FILE              write a table of what is on a shelf, or the first rule that it breaks
+  kuambyte show RECORD [Z] [--svg]                write the tables of a record as grids, or one as a picture
+  kuambyte plan RECORD OCTETS [LAYERS [ORDER]] [--edition N]   write how a block of so many octets is cut
+  kuambyte pack private|public < text > shelf     make a shelf of its text
+  kuambyte unpack private|public < shelf > text   write the text of a shelf
+  kuambyte put PRIVATE TENANT PROFILE < record > shelf         put a record on a private shelf
+  kuambyte remove PRIVATE TENANT PROFILE > shelf               remove one
+
+Besides:
+  kuambyte day                run the whole day on the shelves of the repository
+  kuambyte numbers            write what each answered number means
+  kuambyte replay             read requests, one to a line, and write an answer to each
+  kuambyte help [COMMAND]     write this help, or that of a command
+
+PRIVATE and PUBLIC are shelf files. Words in capitals may also be given by name and in any order, as --tenant 7. Where a result is written,
+-o FILE writes it to a file, which is never half written.
+A refusal is one line on standard error, and its number is the exit status; 64 is for wrong words, 65 for a text that is no shelf, and 74 for
+a file that cannot be read or a write that failed.
 ",
     )
 }

@@ -7,19 +7,42 @@ mod replay;
 use console::argv;
 use console::argv::Words;
 use console::list;
+use drawing::show;
 use hosted::check;
 use hosted::lookup;
 use hosted::receive;
 use hosted::send;
+use packing::pack;
+use packing::unpack;
+use shelving::listing;
+use shelving::put;
+use shelving::remove;
 
-// Runs the command that the words ask for, and answers the exit status.
+// Runs the command that the words ask for, and answers the exit status. `help` and the name of a command is the command with --help.
 pub fn run() -> i32 {
-    if os::arg_count() < 2 {
+    let words = os::arg_count();
+    if words < 2 {
         return help::missing();
     }
+    if !is_help(line_of(1)) {
+        return command(line_of(1), 1, argv::all_words());
+    }
+    if words == 2 {
+        return help::run();
+    }
+    if words > 3 {
+        return help::too_many();
+    }
+    command(line_of(2), 2, argv::for_help())
+}
+
+// Which line of the list of commands a word is.
+fn line_of(place: usize) -> usize {
     let mut word = io::buffer();
-    let n = os::arg(1, &mut word);
-    let names = b"send
+    let n = os::arg(place, &mut word);
+    let names = b"help
+--help
+send
 receive
 check
 lookup
@@ -27,24 +50,38 @@ plan
 day
 numbers
 replay
-help
---help
+shelf
+show
+pack
+unpack
+put
+remove
 ";
-    command(list::find(names, &word[..n]), argv::all_words())
+    list::find(names, &word[..n])
+}
+
+fn is_help(line: usize) -> bool {
+    line < 2
 }
 
 // An arm for each line of that list.
-fn command(line: usize, words: Words) -> i32 {
+fn command(line: usize, place: usize, words: Words) -> i32 {
     match line {
-        0 => send::run(words),
-        1 => receive::run(words),
-        2 => check::run(words),
-        3 => lookup::run(words),
-        4 => plan::run(words),
-        5 => day::run(words),
-        6 => numbers::run(words),
-        7 => replay::run(words),
-        8 | 9 => help::run(words),
-        _ => help::unknown(),
+        0 | 1 => help::run(),
+        2 => send::run(words),
+        3 => receive::run(words),
+        4 => check::run(words),
+        5 => lookup::run(words),
+        6 => plan::run(words),
+        7 => day::run(words),
+        8 => numbers::run(words),
+        9 => replay::run(words),
+        10 => listing::run(words),
+        11 => show::run(words),
+        12 => pack::run(words),
+        13 => unpack::run(words),
+        14 => put::run(words),
+        15 => remove::run(words),
+        _ => help::unknown(place),
     }
 }

@@ -1,4 +1,5 @@
 // The command `numbers`: the table of all numbers that are answered.
+use console::argv;
 use console::argv::Words;
 use console::files;
 use console::help;
@@ -7,13 +8,19 @@ use console::page;
 use text::octets;
 
 pub fn run(words: Words) -> i32 {
-    if words.none {
-        return write();
+    if words.help {
+        return say(words);
     }
+    if !argv::fits(b"", 0, b"-o\n") {
+        return say(words);
+    }
+    write()
+}
+
+fn say(words: Words) -> i32 {
     help::say(
         words.help,
-        b"this command takes no words",
-        b"usage: kuambyte numbers
+        b"usage: kuambyte numbers [-o FILE]
 
 Writes the table of the numbers that are answered, and what each means.
 ",
@@ -27,9 +34,10 @@ fn write() -> i32 {
     let c = page::put(
         b"
 1 to 4 belong to the lookup, 5 to 11, 16 and 19 to sending, 5 to 14, 16 and 19 to receiving, 15 to no call. Checking a word
-answers 5, 6, 8 for a z or a length that the profile does not have, and 12. Numbers are tested in their order, but 19 before 7
-and 16 before 8; the first that applies is answered, and it is the exit status. Other statuses: 64 wrong words, 74 a file that
-cannot be read or a write that failed.
+answers 5, 6, 8 for a z or a length that the profile does not have, and 12. Putting a record on a private shelf answers 1, 2, 5,
+6, 26 and 11, and removing one 1, 2, 4 and 11. Numbers are tested in their order, but 19 before 7, 16 before 8 and 26 before 11;
+the first that applies is answered, and it is the exit status. Other statuses: 64 wrong words, 65 a text that is no shelf, 74 a
+file that cannot be read or a write that failed.
 ",
         &mut page,
         b,

@@ -18,25 +18,23 @@ ghost use mathlib.Core.Path.{_≡_};
 ghost use Rattle.cutting.specs.Promises.{planned};
 ghost use Rattle.desk.specs.Parts.{PartOf};
 
+// The names of the words, in their order.
+const NAMES: [u8; 35] = *b"--record\n--octets\n--layers\n--order\n";
+
 pub fn run(words: Words) -> i32 {
     if words.help {
-        return say(words, b"");
+        return say(words);
     }
-    if argv::has_other(b"--edition\n") {
-        return say(words, b"this command takes no option but --edition");
+    if !argv::fits(&NAMES, 2, b"--edition\n-o\n") {
+        return say(words);
     }
-    let count = words.count;
-    match count {
-        2 | 4 => read(words, asked::for_plan(count)),
-        _ => say(words, b"this command takes two words or four"),
-    }
+    read(words, asked::for_plan(&NAMES))
 }
 
-fn say(words: Words, why: &[u8]) -> i32 {
+fn say(words: Words) -> i32 {
     help::say(
         words.help,
-        why,
-        b"usage: kuambyte plan RECORD OCTETS [LAYERS ORDER] [--edition N]
+        b"usage: kuambyte plan RECORD OCTETS [LAYERS [ORDER]] [--edition N] [-o FILE]
 
 Writes how a transport block of OCTETS octets is cut: B, C, z and K, each code block's own bits, filler and N, the least G with
 which every code block has room for all its coded bits, and the blocks' shares of that G; where code blocks carry a checksum
@@ -47,16 +45,19 @@ each, also its bits, and with a profile of Type 2 the places of a code block fro
   LAYERS        N_L, 1 to 4; 1 where it is not given
   ORDER         Q_m, the bits of a symbol: 2, 4 or 6; 2 where it is not given
   --edition N   the edition, 1 or 2: in 2 each of several code blocks carries a checksum; 1 where it is not given
+  -o FILE       write to this file, and not to standard output; it is never half written
+
+Words may also be given by name, in any order: --record RECORD --octets OCTETS --layers LAYERS --order ORDER.
 ",
     )
 }
 
 fn read(words: Words, asked: Parameters) -> i32 {
     if asked.bad {
-        return say(words, b"");
+        return say(words);
     }
     let mut record = io::large_buffer();
-    let file = files::named(0, &mut record);
+    let file = files::named(&NAMES, b"--record", &mut record);
     if file.failed {
         return status::FAILED;
     }

@@ -1,14 +1,21 @@
 // The command `replay`: requests are read from standard input and answered on standard output.
+use console::argv;
 use console::argv::Words;
 use console::help;
 
 pub fn run(words: Words) -> i32 {
-    if words.none {
-        return stream::replay();
+    if words.help {
+        return say(words);
     }
+    if !argv::fits(b"", 0, b"") {
+        return say(words);
+    }
+    stream::replay()
+}
+
+fn say(words: Words) -> i32 {
     help::say(
         words.help,
-        b"this command takes no words",
         b"usage: kuambyte replay < requests > answers
 
 Reads requests, one to a line, and writes an answer to each. Requests, and what is answered behind the number:
@@ -31,6 +38,8 @@ Reads requests, one to a line, and writes an answer to each. Requests, and what 
   hsend SHELVES TENANT PROFILE ..    as send, with the record that the tenant is given
   hrecv SHELVES TENANT PROFILE ..    as recv, with the record that the tenant is given
   hcheck SHELVES TENANT PROFILE ..   as check, with the record that the tenant is given
+  put PRIVATE TENANT PROFILE RECORD OUTLEN   the private shelf with this record for the tenant and the profile number
+  remove PRIVATE TENANT PROFILE OUTLEN       the private shelf without the record of the tenant and the profile number
 
 SHELVES are two words, PRIVATE and PUBLIC; behind PROFILE the words of send, recv and check behind RECORD.
 check, recv, hrecv and hcheck may end in by=quick or by=plain: which checker is asked, quick where nothing is said.

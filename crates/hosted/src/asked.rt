@@ -4,6 +4,7 @@ use bits::count::Terms;
 use console::argv::Number;
 use console::argv::read_number;
 use console::argv::read_option;
+use console::argv::read_or;
 use text::values;
 
 // The words TENANT and PROFILE, and of a block its octets, N_L, Q_m and G, and behind --rv and --edition its redundancy version and edition.
@@ -17,10 +18,10 @@ pub struct Parameters {
     pub bad: bool,
 }
 
-// The words PRIVATE PUBLIC TENANT PROFILE.
-pub fn for_lookup() -> Parameters {
-    let tenant = read_number(2, b"TENANT", 65535);
-    let profile = read_number(3, b"PROFILE", 65535);
+// The words TENANT and PROFILE. `names` has the names of all words of the command.
+pub fn for_lookup(names: &[u8]) -> Parameters {
+    let tenant = read_number(names, b"--tenant", 65535);
+    let profile = read_number(names, b"--profile", 65535);
     Parameters {
         tenant: values::short_of(tenant.value),
         profile: values::short_of(profile.value),
@@ -36,12 +37,12 @@ pub fn for_lookup() -> Parameters {
     }
 }
 
-// Behind them LAYERS ORDER BITS. The octets are known once the block is read.
-pub fn for_send() -> Parameters {
-    let mut asked = for_lookup();
-    let layers = read_number(4, b"LAYERS", usize::MAX);
-    let order = read_number(5, b"ORDER", usize::MAX);
-    let bits = read_number(6, b"BITS", usize::MAX);
+// With them LAYERS, ORDER and BITS. The octets are known once the block is read.
+pub fn for_send(names: &[u8]) -> Parameters {
+    let mut asked = for_lookup(names);
+    let layers = read_number(names, b"--layers", usize::MAX);
+    let order = read_number(names, b"--order", usize::MAX);
+    let bits = read_number(names, b"--bits", usize::MAX);
     let version = read_version();
     let edition = read_edition();
     let terms = Terms {
@@ -58,12 +59,12 @@ pub fn for_send() -> Parameters {
 // A is 8 times OCTETS and has to fit as well.
 const MOST_OCTETS: usize = usize::MAX / 8;
 
-// Behind them OCTETS LAYERS ORDER. G is known once the bits are read.
-pub fn for_receive() -> Parameters {
-    let mut asked = for_lookup();
-    let octets = read_number(4, b"OCTETS", MOST_OCTETS);
-    let layers = read_number(5, b"LAYERS", usize::MAX);
-    let order = read_number(6, b"ORDER", usize::MAX);
+// With them OCTETS, LAYERS and ORDER. G is known once the bits are read.
+pub fn for_receive(names: &[u8]) -> Parameters {
+    let mut asked = for_lookup(names);
+    let octets = read_number(names, b"--octets", MOST_OCTETS);
+    let layers = read_number(names, b"--layers", usize::MAX);
+    let order = read_number(names, b"--order", usize::MAX);
     asked.octets = octets.value;
     let version = read_version();
     let edition = read_edition();
@@ -88,11 +89,11 @@ fn read_edition() -> Number {
     read_option(b"--edition", b"N behind --edition", usize::MAX, 1)
 }
 
-// RECORD OCTETS [LAYERS ORDER], and the edition; one layer and two bits to a symbol where there are only two words.
-pub fn for_plan(words: usize) -> Parameters {
-    let octets = read_number(1, b"OCTETS", usize::MAX);
-    let layers = read_or(words, 2, b"LAYERS", 1);
-    let order = read_or(words, 3, b"ORDER", 2);
+// OCTETS, LAYERS and ORDER, and the edition; one layer and two bits to a symbol where these are not given.
+pub fn for_plan(names: &[u8]) -> Parameters {
+    let octets = read_number(names, b"--octets", usize::MAX);
+    let layers = read_or(names, b"--layers", usize::MAX, 1);
+    let order = read_or(names, b"--order", usize::MAX, 2);
     let edition = read_edition();
     Parameters {
         tenant: 0,
@@ -107,14 +108,6 @@ pub fn for_plan(words: usize) -> Parameters {
         g: CodedBits(0),
         bad: octets.bad | layers.bad | order.bad | edition.bad,
     }
-}
-
-// The number that word k holds, or this one where there are not so many words.
-fn read_or(words: usize, k: usize, name: &[u8], value: usize) -> Number {
-    if k < words {
-        return read_number(k, name, usize::MAX);
-    }
-    Number { value, bad: false }
 }
 
 pub fn with_octets(mut asked: Parameters, octets: usize) -> Parameters {

@@ -21,32 +21,28 @@ ghost use Prim.Native.Nat.{_<_};
 ghost use Rattle.profile.specs.Record.{t};
 ghost use Rattle.profile.specs.Promises.{judged};
 
+// The names of the words, in their order.
+const NAMES: [u8; 42] = *b"--private\n--public\n--tenant\n--profile\n--z\n";
+
 pub fn run(words: Words) -> i32 {
     if words.help {
-        return say(words, b"");
+        return say(words);
     }
-    if argv::has_other(b"--plain\n--text\n") {
-        return say(
-            words,
-            b"this command takes no options but --plain and --text",
-        );
+    if !argv::fits(&NAMES, 5, b"--plain\n--text\n-o\n") {
+        return say(words);
     }
-    if words.count != 5 {
-        return say(words, b"this command takes five words");
-    }
-    let asked = asked::for_lookup();
-    let z = argv::read_number(4, b"Z", usize::MAX);
+    let asked = asked::for_lookup(&NAMES);
+    let z = argv::read_number(&NAMES, b"--z", usize::MAX);
     if asked.bad | z.bad {
-        return say(words, b"");
+        return say(words);
     }
     read(words, asked, z.value)
 }
 
-fn say(words: Words, why: &[u8]) -> i32 {
+fn say(words: Words) -> i32 {
     help::say(
         words.help,
-        why,
-        b"usage: kuambyte check PRIVATE PUBLIC TENANT PROFILE Z [--plain] [--text] < word
+        b"usage: kuambyte check PRIVATE PUBLIC TENANT PROFILE Z [--plain] [--text] [-o FILE] < word
 
 Reads a word of (kb+m+x) times Z bits and writes whether it checks: whether every row of the spread-out matrix sums to an even number
 over it. Where it does not, a line for each group of rows that has odd ones says which they are, counted from 0 in their group.
@@ -56,13 +52,16 @@ over it. Where it does not, a line for each group of rows that has odd ones says
   Z                 one of the profile's sizes; a group of rows, or of places, is so many
   --plain           ask the plain checker, which goes through the matrix element by element; it says the same
   --text            read bits as characters 0 and 1, line ends skipped, not as octets 0 and 1
+  -o FILE           write to this file, and not to standard output; it is never half written
+
+Words may also be given by name, in any order: --private PRIVATE --public PUBLIC --tenant TENANT --profile PROFILE --z Z.
 ",
     )
 }
 
 fn read(words: Words, asked: Parameters, z: usize) -> i32 {
     let mut store = shelves::room();
-    let found = shelves::named(&mut store);
+    let found = shelves::named(&NAMES, &mut store);
     if found.failed {
         return status::FAILED;
     }

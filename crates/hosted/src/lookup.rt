@@ -10,40 +10,42 @@ use console::files;
 use console::help;
 use console::status;
 
+// The names of the words, in their order.
+const NAMES: [u8; 38] = *b"--private\n--public\n--tenant\n--profile\n";
+
 pub fn run(words: Words) -> i32 {
     if words.help {
-        return say(words, b"");
+        return say(words);
     }
-    if argv::has_other(b"") {
-        return say(words, b"this command takes no options");
+    if !argv::fits(&NAMES, 4, b"-o\n") {
+        return say(words);
     }
-    if words.count != 4 {
-        return say(words, b"this command takes four words");
-    }
-    let asked = asked::for_lookup();
+    let asked = asked::for_lookup(&NAMES);
     if asked.bad {
-        return say(words, b"");
+        return say(words);
     }
     read(asked)
 }
 
-fn say(words: Words, why: &[u8]) -> i32 {
+fn say(words: Words) -> i32 {
     help::say(
         words.help,
-        why,
-        b"usage: kuambyte lookup PRIVATE PUBLIC TENANT PROFILE > record
+        b"usage: kuambyte lookup PRIVATE PUBLIC TENANT PROFILE [-o FILE] > record
 
 Writes the profile record that the tenant is given: its own from the private shelf, else the public one of that number.
 
   PRIVATE, PUBLIC   the shelf files
   TENANT, PROFILE   who asks, from 1, and for which profile number
+  -o FILE           write to this file, and not to standard output; it is never half written
+
+Words may also be given by name, in any order: --private PRIVATE --public PUBLIC --tenant TENANT --profile PROFILE.
 ",
     )
 }
 
 fn read(asked: Parameters) -> i32 {
     let mut store = shelves::room();
-    let found = shelves::named(&mut store);
+    let found = shelves::named(&NAMES, &mut store);
     if found.failed {
         return status::FAILED;
     }

@@ -13,31 +13,27 @@ use console::help;
 use console::status;
 use text::octets;
 
+// The names of the words, in their order.
+const NAMES: [u8; 64] = *b"--private\n--public\n--tenant\n--profile\n--octets\n--layers\n--order\n";
+
 pub fn run(words: Words) -> i32 {
     if words.help {
-        return say(words, b"");
+        return say(words);
     }
-    if argv::has_other(b"--rv\n--edition\n--plain\n--text\n") {
-        return say(
-            words,
-            b"this command takes no options but --rv, --edition, --plain and --text",
-        );
+    if !argv::fits(&NAMES, 7, b"--rv\n--edition\n--plain\n--text\n-o\n") {
+        return say(words);
     }
-    if words.count != 7 {
-        return say(words, b"this command takes seven words");
-    }
-    let asked = asked::for_receive();
+    let asked = asked::for_receive(&NAMES);
     if asked.bad {
-        return say(words, b"");
+        return say(words);
     }
     read(words, asked)
 }
 
-fn say(words: Words, why: &[u8]) -> i32 {
+fn say(words: Words) -> i32 {
     help::say(
         words.help,
-        why,
-        b"usage: kuambyte receive PRIVATE PUBLIC TENANT PROFILE OCTETS LAYERS ORDER [--rv N] [--edition N] [--plain] [--text] < bits > block
+        b"usage: kuambyte receive PRIVATE PUBLIC TENANT PROFILE OCTETS LAYERS ORDER [--rv N] [--edition N] [--plain] [--text] [-o FILE] < bits > block
 
 Reads the bits that were sent of a transport block of OCTETS octets and writes the block. How many bits there are is G.
 
@@ -50,13 +46,17 @@ Reads the bits that were sent of a transport block of OCTETS octets and writes t
   --edition N       the edition that the bits were sent in, 1 or 2; 1 where it is not given
   --plain           ask the plain parity checker, which goes through the matrix element by element; it says the same
   --text            read bits as characters 0 and 1, line ends skipped, not as octets 0 and 1
+  -o FILE           write to this file, and not to standard output; it is never half written
+
+Words may also be given by name, in any order: --private PRIVATE --public PUBLIC --tenant TENANT --profile PROFILE
+--octets OCTETS --layers LAYERS --order ORDER.
 ",
     )
 }
 
 fn read(words: Words, asked: Parameters) -> i32 {
     let mut store = shelves::room();
-    let found = shelves::named(&mut store);
+    let found = shelves::named(&NAMES, &mut store);
     if found.failed {
         return status::FAILED;
     }

@@ -34,10 +34,25 @@ fn put(number: u32, record: &[u8], asked: Parameters, line: &mut [u8]) -> usize 
 fn hint(number: u32, record: &[u8], asked: Parameters, line: &mut [u8], at: usize) -> usize {
     match number {
         1 => page::put(b"; tenants are 1 to 65535", line, at),
-        7 => page::put(b"; 1 to 2048 octets are accepted", line, at),
+        2 => page::put(
+            b"; kuambyte shelf private FILE says which rule it breaks",
+            line,
+            at,
+        ),
+        3 => page::put(
+            b"; kuambyte shelf public FILE says which rule it breaks",
+            line,
+            at,
+        ),
+        4 => page::put(b"; kuambyte shelf lists what is on one", line, at),
+        5 | 6 => page::put(b"; kuambyte show RECORD says where", line, at),
         8 => parameters(asked, line, at),
         10 | 13 => least_bits(record, asked, line, at),
-        12 => page::put(b"; each has to be 0 or 1", line, at),
+        12 => page::put(
+            b"; bits are octets 0 and 1, or with --text characters",
+            line,
+            at,
+        ),
         16 => version(record, line, at),
         _ => at,
     }

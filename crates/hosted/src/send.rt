@@ -12,31 +12,27 @@ use console::help;
 use console::status;
 use text::octets;
 
+// The names of the words, in their order.
+const NAMES: [u8; 62] = *b"--private\n--public\n--tenant\n--profile\n--layers\n--order\n--bits\n";
+
 pub fn run(words: Words) -> i32 {
     if words.help {
-        return say(words, b"");
+        return say(words);
     }
-    if argv::has_other(b"--rv\n--edition\n--text\n") {
-        return say(
-            words,
-            b"this command takes no options but --rv, --edition and --text",
-        );
+    if !argv::fits(&NAMES, 7, b"--rv\n--edition\n--text\n-o\n") {
+        return say(words);
     }
-    if words.count != 7 {
-        return say(words, b"this command takes seven words");
-    }
-    let asked = asked::for_send();
+    let asked = asked::for_send(&NAMES);
     if asked.bad {
-        return say(words, b"");
+        return say(words);
     }
     read(words.text, asked)
 }
 
-fn say(words: Words, why: &[u8]) -> i32 {
+fn say(words: Words) -> i32 {
     help::say(
         words.help,
-        why,
-        b"usage: kuambyte send PRIVATE PUBLIC TENANT PROFILE LAYERS ORDER BITS [--rv N] [--edition N] [--text] < block > bits
+        b"usage: kuambyte send PRIVATE PUBLIC TENANT PROFILE LAYERS ORDER BITS [--rv N] [--edition N] [--text] [-o FILE] < block > bits
 
 Reads a transport block of 1 to 2048 packed octets and writes the BITS bits that are sent of it.
 
@@ -49,13 +45,17 @@ Reads a transport block of 1 to 2048 packed octets and writes the BITS bits that
                     A profile of Type 1 takes 0 only
   --edition N       the edition, 1 or 2: in 2 each of several code blocks carries a checksum; 1 where it is not given
   --text            write bits as characters 0 and 1 with a line end behind, not as octets 0 and 1
+  -o FILE           write to this file, and not to standard output; it is never half written
+
+Words may also be given by name, in any order: --private PRIVATE --public PUBLIC --tenant TENANT --profile PROFILE
+--layers LAYERS --order ORDER --bits BITS.
 ",
     )
 }
 
 fn read(text: bool, asked: Parameters) -> i32 {
     let mut store = shelves::room();
-    let found = shelves::named(&mut store);
+    let found = shelves::named(&NAMES, &mut store);
     if found.failed {
         return status::FAILED;
     }

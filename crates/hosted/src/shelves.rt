@@ -21,14 +21,14 @@ pub struct Shelves {
     pub failed: bool,
 }
 
-// Reads the files that the words PRIVATE and PUBLIC name.
-pub fn named(store: &mut [u8]) -> Shelves {
+// Reads the files that the words PRIVATE and PUBLIC name. `names` has the names of all words of the command.
+pub fn named(names: &[u8], store: &mut [u8]) -> Shelves {
     let half = store.len() / 2;
-    let own = files::named(0, &mut store[0..half]);
+    let own = files::named(names, b"--private", &mut store[0..half]);
     if own.failed {
         return failure();
     }
-    let all = files::named(1, &mut store[half..]);
+    let all = files::named(names, b"--public", &mut store[half..]);
     Shelves {
         private: own.count,
         public: all.count,

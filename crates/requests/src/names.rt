@@ -14,16 +14,18 @@ use crate::hsend;
 use crate::judge;
 use crate::lookup;
 use crate::plan;
+use crate::put;
 use crate::rate;
 use crate::recv;
+use crate::remove;
 use crate::send;
 use crate::sums;
 use text::faults::Fault;
 use text::forms;
 use text::forms::Given;
 use text::forms::WORDS;
+use text::octets;
 use text::octets::find_near;
-use text::octets::put;
 use text::octets::same;
 ghost use Prim.Native.Nat.{_≤_};
 ghost use mathlib.Core.Path.{_≡_};
@@ -32,8 +34,9 @@ ghost use Rattle.text.specs.Words.{Held};
 
 // The kinds of requests are counted from 0: a request's name gives its kind, by `kind_of`, `put_form` has
 // its form, and `of_kind` its module. `records` and `bits` take the octets that the words of a request
-// hold, a record, packed octets or a private shelf in the first half of `records` and a public shelf in
-// the second; `lent` is the output of the call that it asks for.
+// hold, a record, packed octets or a private shelf in the first half of `records` and a public shelf, or
+// the record that is put on the private one, in the second; `lent` is the output of the call that it
+// asks for.
 pub fn answer(request: &[u8], records: &mut [u8], bits: &mut [u8], lent: &mut [u8]) -> Answer {
     let end = find_near(request, 0, b' ');
     let kind = kind_of(&request[0..end]);
@@ -46,7 +49,7 @@ pub fn answer(request: &[u8], records: &mut [u8], bits: &mut [u8], lent: &mut [u
 }
 
 // Behind the last kind.
-const NO_KIND: usize = 18;
+const NO_KIND: usize = 20;
 
 fn kind_of(name: &[u8]) -> usize {
     if same(name, b"crc") {
@@ -103,6 +106,12 @@ fn kind_of(name: &[u8]) -> usize {
     if same(name, b"hcheck") {
         return 17;
     }
+    if same(name, b"put") {
+        return 18;
+    }
+    if same(name, b"remove") {
+        return 19;
+    }
     NO_KIND
 }
 
@@ -112,40 +121,42 @@ fn put_form(kind: usize, form: &mut [u8]) -> usize
     ensures { λ r. ⌜ r ≤ 96 ⌝ }
 {
     match kind {
-        0 => put(b"crc WIDTH BITS", form, 0),
-        1 => put(b"crc24b BITS", form, 0),
-        2 => put(b"crcoct WIDTH PACKED", form, 0),
-        3 => put(b"crcm WIDTH MASK BITS", form, 0),
-        4 => put(b"crcappend WIDTH MASK BITS OUTLEN", form, 0),
-        5 => put(b"crctest WIDTH MASK BITS", form, 0),
-        6 => put(b"profile RECORD", form, 0),
-        7 => put(b"plan RECORD OCTETS ed=1", form, 0),
-        8 => put(b"encode RECORD Z PLACES OUTLEN", form, 0),
-        9 => put(b"check RECORD Z BITS by=quick|plain", form, 0),
-        10 => put(b"sums RECORD Z BITS OUTLEN", form, 0),
-        11 => put(b"rate E PLACES OUTLEN type=1 rv=0", form, 0),
-        12 => put(b"send RECORD BLOCK NL QM G OUTLEN rv=0 ed=1", form, 0),
-        13 => put(
+        0 => octets::put(b"crc WIDTH BITS", form, 0),
+        1 => octets::put(b"crc24b BITS", form, 0),
+        2 => octets::put(b"crcoct WIDTH PACKED", form, 0),
+        3 => octets::put(b"crcm WIDTH MASK BITS", form, 0),
+        4 => octets::put(b"crcappend WIDTH MASK BITS OUTLEN", form, 0),
+        5 => octets::put(b"crctest WIDTH MASK BITS", form, 0),
+        6 => octets::put(b"profile RECORD", form, 0),
+        7 => octets::put(b"plan RECORD OCTETS ed=1", form, 0),
+        8 => octets::put(b"encode RECORD Z PLACES OUTLEN", form, 0),
+        9 => octets::put(b"check RECORD Z BITS by=quick|plain", form, 0),
+        10 => octets::put(b"sums RECORD Z BITS OUTLEN", form, 0),
+        11 => octets::put(b"rate E PLACES OUTLEN type=1 rv=0", form, 0),
+        12 => octets::put(b"send RECORD BLOCK NL QM G OUTLEN rv=0 ed=1", form, 0),
+        13 => octets::put(
             b"recv RECORD A NL QM BITS OUTLEN rv=0 ed=1 by=quick|plain",
             form,
             0,
         ),
-        14 => put(b"lookup PRIVATE PUBLIC TENANT PROFILE", form, 0),
-        15 => put(
+        14 => octets::put(b"lookup PRIVATE PUBLIC TENANT PROFILE", form, 0),
+        15 => octets::put(
             b"hsend PRIVATE PUBLIC TENANT PROFILE BLOCK NL QM G OUTLEN rv=0 ed=1",
             form,
             0,
         ),
-        16 => put(
+        16 => octets::put(
             b"hrecv PRIVATE PUBLIC TENANT PROFILE A NL QM BITS OUTLEN rv=0 ed=1 by=quick|plain",
             form,
             0,
         ),
-        17 => put(
+        17 => octets::put(
             b"hcheck PRIVATE PUBLIC TENANT PROFILE Z BITS by=quick|plain",
             form,
             0,
         ),
+        18 => octets::put(b"put PRIVATE TENANT PROFILE ADDED OUTLEN", form, 0),
+        19 => octets::put(b"remove PRIVATE TENANT PROFILE OUTLEN", form, 0),
         _ => 0,
     }
 }
@@ -193,34 +204,36 @@ fn of_given(
     )
 }
 
-// Where the form has no PUBLIC, that shelf is empty and `record` is RECORD or PACKED; else `record` is PRIVATE.
+// `first` is RECORD, PACKED or PRIVATE, and `second` PUBLIC or ADDED; each is empty where the form has none of them.
 fn of_kind<'a>(
     kind: usize,
     numbers: &[usize; WORDS],
-    record: &'a [u8],
-    public: &'a [u8],
+    first: &'a [u8],
+    second: &'a [u8],
     bits: &[u8],
     lent: &mut [u8],
 ) -> Answer {
     match kind {
         0 => crc::answer(numbers, bits),
         1 => crc24b::answer(bits),
-        2 => crcoct::answer(numbers, record),
+        2 => crcoct::answer(numbers, first),
         3 => crcm::answer(numbers, bits),
         4 => crcappend::answer(numbers, bits, lent),
         5 => crctest::answer(numbers, bits),
-        6 => judge::answer(record),
-        7 => plan::answer(numbers, record),
-        8 => encode::answer(numbers, record, bits, lent),
-        9 => check::answer(numbers, record, bits),
-        10 => sums::answer(numbers, record, bits, lent),
+        6 => judge::answer(first),
+        7 => plan::answer(numbers, first),
+        8 => encode::answer(numbers, first, bits, lent),
+        9 => check::answer(numbers, first, bits),
+        10 => sums::answer(numbers, first, bits, lent),
         11 => rate::answer(numbers, bits, lent),
-        12 => send::answer(numbers, record, bits, lent),
-        13 => recv::answer(numbers, record, bits, lent),
-        14 => lookup::answer(numbers, record, public),
-        15 => hsend::answer(numbers, record, public, bits, lent),
-        16 => hrecv::answer(numbers, record, public, bits, lent),
-        17 => hcheck::answer(numbers, record, public, bits),
+        12 => send::answer(numbers, first, bits, lent),
+        13 => recv::answer(numbers, first, bits, lent),
+        14 => lookup::answer(numbers, first, second),
+        15 => hsend::answer(numbers, first, second, bits, lent),
+        16 => hrecv::answer(numbers, first, second, bits, lent),
+        17 => hcheck::answer(numbers, first, second, bits),
+        18 => put::answer(numbers, first, second, lent),
+        19 => remove::answer(numbers, first, lent),
         _ => Answer::Error(Fault::Request),
     }
 }

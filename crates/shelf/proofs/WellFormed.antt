@@ -109,7 +109,7 @@ module _ (S : List ℕ) where
         ends = ends;
       }
 
-  is-formed : (private : Bool) → Formed private → wellFormed private S ≡ true
+  pub is-formed : (private : Bool) → Formed private → wellFormed private S ≡ true
   unfolding wellFormed endsRight
   is-formed private f =
       let n = count S in
@@ -124,9 +124,9 @@ module _ (S : List ℕ) where
 
   -- ---- "Pairs (tenant, profile number) strictly rise"
 
-  record Below (j k : ℕ) : Type 0 where
-    tenants : tenant S j ≤ tenant S k
-    profiles : tenant S j ≡ tenant S k → profile S j < profile S k
+  pub record Below (j k : ℕ) : Type 0 where
+    pub tenants : tenant S j ≤ tenant S k
+    pub profiles : tenant S j ≡ tenant S k → profile S j < profile S k
 
   below-next : (k : ℕ) → rises S (suc k) ≡ true → Below k (suc k)
   unfolding rises
@@ -153,7 +153,7 @@ module _ (S : List ℕ) where
       }
 
   module _ (up : (k : ℕ) → k < count S → rises S k ≡ true) where
-    below : (j k : ℕ) → j < k → k < count S → Below j k
+    pub below : (j k : ℕ) → j < k → k < count S → Below j k
     below j zero h l = absurd (omega arith)
     below j (suc k) h l =
         let next = below-next k (up (suc k) l) in

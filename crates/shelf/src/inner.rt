@@ -1,6 +1,8 @@
 // For the layers above that want a lookup's number and its stretch at once: each shelf is judged once and searched once.
-use crate::find;
-use crate::form;
+pub mod entry;
+pub mod find;
+pub mod form;
+
 use bits::number::PRIVATE_SHELF;
 use bits::number::PUBLIC_SHELF;
 use bits::number::TENANT_ZERO;

@@ -1,7 +1,4 @@
 // Shelves: the record that a tenant is given, and the hosted calls, which look it up first. Coding and checking are known by their promises only.
-mod entry;
-mod find;
-mod form;
 pub mod inner;
 
 use crate::inner::look;

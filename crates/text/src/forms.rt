@@ -21,7 +21,7 @@ pub const WORDS: usize = 16;
 pub struct Given {
     // Octets that RECORD, PACKED or PRIVATE fills of the first half of the store of records.
     pub record: usize,
-    // Octets that PUBLIC fills of the second half.
+    // Octets that PUBLIC or ADDED fills of the second half.
     pub public: usize,
     // Octets that BLOCK, BITS or PLACES fills of the store of bits.
     pub bits: usize,
@@ -218,6 +218,9 @@ fn kind_of(name: &[u8]) -> Kind {
         return Kind::First;
     }
     if same(name, b"PUBLIC") {
+        return Kind::Second;
+    }
+    if same(name, b"ADDED") {
         return Kind::Second;
     }
     if same(name, b"BLOCK") {

@@ -103,6 +103,13 @@ mod tests {
         assert_eq!(answered(&format!("hcheck {shelves} 1 7 2 01111011")), "0 1");
         assert_eq!(answered(&format!("hcheck {shelves} 1 7 2 01111010")), "0 0");
         assert_eq!(answered(&format!("hcheck {shelves} 2 7 2 01111011")), "4 0");
+        let (toy, private) = (TOY.to_lowercase(), format!("000100010007000a001a{TOY}"));
+        let put = format!("0 36 000100010007000a001a{toy}");
+        assert_eq!(answered(&format!("put 0000 1 7 {TOY} 36")), put);
+        assert_eq!(answered(&format!("put 0000 1 7 {TOY} 35")), "11 0 -");
+        assert_eq!(answered(&format!("put 0000 0 7 {TOY} 36")), "1 0 -");
+        assert_eq!(answered(&format!("remove {private} 1 7 2")), "0 2 0000");
+        assert_eq!(answered(&format!("remove {private} 1 8 2")), "4 0 -");
     }
 
     #[test]

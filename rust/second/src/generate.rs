@@ -5,6 +5,7 @@ pub mod crc;
 pub mod crc24b;
 pub mod crcoct;
 pub mod hosted;
+pub mod keep;
 mod large;
 mod makers;
 pub mod masked;
@@ -13,6 +14,7 @@ pub mod profile;
 pub mod rate;
 pub mod records;
 pub mod recv;
+pub mod samples;
 pub mod send;
 mod shelf;
 mod write;
@@ -189,6 +191,8 @@ mod tests {
                 &[0, 1, 2, 3, 4, 5, 6, 7, 8, 9, 10, 11, 12, 13, 14, 16, 19],
             ),
             ("hcheck", &[0, 1, 2, 3, 4, 5, 6, 8, 12]),
+            ("put", &[0, 1, 2, 5, 6, 11, 26]),
+            ("remove", &[0, 1, 2, 4, 11]),
         ] {
             let (numbers, others) = numbers_of(kind);
             let expected = expected.iter().copied().collect();

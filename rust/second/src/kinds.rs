@@ -15,8 +15,10 @@ mod lookup;
 pub mod parts;
 mod plan;
 mod profile;
+mod put;
 mod rate;
 mod recv;
+mod remove;
 mod send;
 mod sums;
 
@@ -43,6 +45,8 @@ pub const KINDS: &[Kind] = &[
     hsend::KIND,
     hrecv::KIND,
     hcheck::KIND,
+    put::KIND,
+    remove::KIND,
 ];
 
 /// One kind of request.

@@ -1,5 +1,5 @@
-//! The program `second`: answers requests, writes requests for comparing two implementations, makes the
-//! shelves of the worked day, and rewrites what is stored in an old form.
+//! The program `second`: answers requests, writes requests and shelves for comparing two implementations,
+//! makes shelves of their texts, those of the worked day among them, and rewrites what is stored in an old form.
 
 mod allocation;
 mod answer;
@@ -10,6 +10,7 @@ mod errors;
 mod form;
 mod generate;
 mod hosted;
+mod keep;
 mod kinds;
 mod lines;
 mod masked;
@@ -40,6 +41,7 @@ use std::path::PathBuf;
 use std::process::ExitCode;
 
 use kinds::Kind;
+use shelf::Side;
 
 const HELP: &str = "\
 second replay
@@ -51,9 +53,15 @@ second generate SEED COUNT [KIND]
 second shelves FOLDER [TO]
     makes public.shelf, private.shelf and trial.shelf from public.txt, private.txt and trial.txt
     in FOLDER, and writes them there or to the folder TO
+second pack private|public
+    reads the text of a shelf from standard input and writes the shelf; nothing is written unless the
+    whole text is right
+second shelf-samples COUNT SEED FOLDER
+    writes COUNT well-formed shelves, with records that are accepted and others, into FOLDER, each as
+    NNNNN-private.shelf or NNNNN-public.shelf; the same SEED gives the same shelves
 second tables
     reads the text of 5G.212 from standard input and counts the numbers in each row of its LDPC
-    tables, as docs/TABLES.md has them
+    tables, and lists the rows that are mended, as docs/TABLES.md has them
 second public
     reads the same and writes shelves/public.txt
 second trial
@@ -78,6 +86,12 @@ enum Command {
     Shelves {
         from: PathBuf,
         to: PathBuf,
+    },
+    Pack(Side),
+    ShelfSamples {
+        count: u64,
+        seed: u64,
+        folder: PathBuf,
     },
     Tables,
     Public,
@@ -115,6 +129,9 @@ fn command(arguments: &[String]) -> Option<Command> {
         ["generate", seed, count, kind] => generate(seed, count, Some(kind)),
         ["shelves", folder] => Some(shelves(folder, folder)),
         ["shelves", from, to] => Some(shelves(from, to)),
+        ["pack", "private"] => Some(Command::Pack(Side::Private)),
+        ["pack", "public"] => Some(Command::Pack(Side::Public)),
+        ["shelf-samples", count, seed, folder] => shelf_samples(count, seed, folder),
         ["tables"] => Some(Command::Tables),
         ["public"] => Some(Command::Public),
         ["trial"] => Some(Command::Trial),
@@ -142,6 +159,14 @@ fn shelves(from: &str, to: &str) -> Command {
     }
 }
 
+fn shelf_samples(count: &str, seed: &str, folder: &str) -> Option<Command> {
+    Some(Command::ShelfSamples {
+        count: words::number(count.as_bytes()).ok()?,
+        seed: words::number(seed.as_bytes()).ok()?,
+        folder: folder.into(),
+    })
+}
+
 fn run(command: &Command) -> io::Result<()> {
     let mut output = BufWriter::new(io::stdout().lock());
     match command {
@@ -150,6 +175,15 @@ fn run(command: &Command) -> io::Result<()> {
             generate::generate(kinds, *seed, *count, &mut output)?;
         }
         Command::Shelves { from, to } => shelves::make(from, to)?,
+        Command::Pack(side) => {
+            let shelf = shelves::pack(&io::read_to_string(io::stdin())?, *side)?;
+            output.write_all(&shelf)?;
+        }
+        Command::ShelfSamples {
+            count,
+            seed,
+            folder,
+        } => generate::samples::write(*count, *seed, folder)?,
         Command::Tables => tables::counts(&io::read_to_string(io::stdin())?, &mut output)?,
         Command::Public => tables::public(&io::read_to_string(io::stdin())?, &mut output)?,
         Command::Trial => tables::trial(&io::read_to_string(io::stdin())?, &mut output)?,

@@ -55,3 +55,6 @@ pub const VERSION: Number = 16;
 
 /// The edition is neither 1 nor 2. It is tested before 7.
 pub const EDITION: Number = 19;
+
+/// The new shelf would have over 64 entries or over 65,535 octets. It is tested before 11.
+pub const NO_ROOM: Number = 26;

@@ -1,5 +1,6 @@
 //! Reads shelves and looks a record up (document 01, "Shelf and profile records").
 
+use std::collections::BTreeMap;
 use std::ops::Range;
 
 use crate::numbers::{Number, NO_RECORD, PRIVATE_SHELF, PUBLIC_SHELF, TENANT_0};
@@ -75,6 +76,18 @@ fn found(entries: &[Entry], tenant: u16, profile: u16, side: Side) -> Option<Fou
         side,
         stretch: entry.offset..entry.offset + entry.length,
     })
+}
+
+/// Records by tenant and profile number, in the order in which a shelf has them.
+pub type Records = BTreeMap<(u16, u16), Vec<u8>>;
+
+/// The records of a well-formed shelf.
+pub fn records(shelf: &[u8], side: Side) -> Option<Records> {
+    let record = |entry: Entry| {
+        let octets = shelf[entry.offset..entry.offset + entry.length].to_vec();
+        ((entry.tenant, entry.profile), octets)
+    };
+    Some(entries(shelf, side)?.into_iter().map(record).collect())
 }
 
 /// Whether a shelf is well formed.

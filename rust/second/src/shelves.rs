@@ -35,6 +35,11 @@ fn read(file: &Path, side: Side) -> io::Result<Vec<u8>> {
     text::shelf(&text, side).map_err(|fault| at(file, &fault.to_string()))
 }
 
+/// The octets of the shelf that a text from standard input describes.
+pub fn pack(text: &str, side: Side) -> io::Result<Vec<u8>> {
+    text::shelf(text, side).map_err(|fault| io::Error::other(fault.to_string()))
+}
+
 fn at(file: &Path, what: &str) -> io::Error {
     io::Error::other(format!("{}: {what}", file.display()))
 }

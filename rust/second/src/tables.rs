@@ -1,7 +1,8 @@
 //! Reads the printed tables of 5G.212 v2.3, section 5.1.3.2, counts their numbers row by row, and
-//! writes the tables that are right as the text of the public shelf, and the one that is not, mended by a
-//! rule, as the text of the trial shelf.
+//! writes those of Type 1, mended where a row has not its count, as the text of the public shelf, and that of
+//! Type 2, which no rule mends, as the text of the trial shelf.
 
+mod mend;
 mod third;
 mod write;
 

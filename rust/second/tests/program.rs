@@ -74,6 +74,8 @@ fn help_says_what_there_is() {
         "second replay",
         "second generate SEED COUNT",
         "second shelves FOLDER",
+        "second pack private|public",
+        "second shelf-samples COUNT SEED FOLDER",
         "second tables",
         "second public",
         "second trial",
@@ -132,6 +134,37 @@ fn a_text_with_a_fault_is_reported_in_one_line() {
 }
 
 #[test]
+fn a_shelf_is_packed_from_its_text() {
+    let shelves = Path::new(env!("CARGO_MANIFEST_DIR")).join("../../shelves");
+    for side in ["private", "public"] {
+        let text = File::open(shelves.join(side).with_extension("txt")).unwrap();
+        let output = second(&["pack", side], text.into());
+        assert!(output.status.success());
+        let shipped = fs::read(shelves.join(side).with_extension("shelf")).unwrap();
+        assert_eq!(output.stdout, shipped, "{side}");
+    }
+    let text = File::open(shelves.join("private.txt")).unwrap();
+    let output = second(&["pack", "public"], text.into());
+    assert_eq!(output.status.code(), Some(1));
+    assert!(output.stdout.is_empty());
+    let message = String::from_utf8(output.stderr).unwrap();
+    assert!(
+        message.starts_with("second: line 11: the tenant is `3`"),
+        "{message}"
+    );
+}
+
+#[test]
+fn sample_shelves_are_written() {
+    let folder = Path::new(env!("CARGO_TARGET_TMPDIR")).join("samples");
+    let _ = fs::remove_dir_all(&folder);
+    let name = folder.to_str().unwrap();
+    let output = second(&["shelf-samples", "3", "1", name], Stdio::null());
+    assert!(output.status.success());
+    assert_eq!(fs::read_dir(&folder).unwrap().count(), 3);
+}
+
+#[test]
 fn a_text_without_the_tables_is_reported() {
     for command in ["tables", "public", "trial"] {
         let output = second(&[command], Stdio::null());
@@ -184,6 +217,12 @@ fn other_commands_are_refused() {
         &["generate", "1", "1", "plan", "plan"],
         &["shelves"],
         &["shelves", "from", "to", "on"],
+        &["pack"],
+        &["pack", "both"],
+        &["pack", "private", "file"],
+        &["shelf-samples", "1", "1"],
+        &["shelf-samples", "one", "1", "folder"],
+        &["shelf-samples", "1", "-1", "folder"],
         &["tables", "file"],
         &["public", "file"],
         &["trial", "file"],

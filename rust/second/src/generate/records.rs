@@ -383,7 +383,7 @@ fn other_header(random: &mut Random) -> Draft {
 }
 
 /// A well-formed record of which one table is no staircase, for one reason.
-fn no_staircase(random: &mut Random) -> Draft {
+pub fn no_staircase(random: &mut Random) -> Draft {
     let mut draft = good(random);
     let table = anywhere(draft.tables.len(), random);
     let (kb, m) = (usize::from(draft.kb), usize::from(draft.m));

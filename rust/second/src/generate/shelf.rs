@@ -1,20 +1,16 @@
 //! Shelves that are drawn: well-formed ones with a record where it is to be found, and ones with a
 //! chosen fault.
 
-use std::collections::BTreeMap;
-
 use super::records::{bad, small};
 use super::send::octets;
 use super::write;
 use crate::draft::ShelfDraft;
 use crate::random::Random;
 use crate::samples::TOY;
+use crate::shelf::Records;
 
-/// Records by tenant and profile number, in the order that a shelf needs.
-type Records = BTreeMap<(u16, u16), Vec<u8>>;
-
-/// The same in any order.
-type Entry = (u16, u16, Vec<u8>);
+/// Records with their tenants and profile numbers, in any order.
+pub type Entry = (u16, u16, Vec<u8>);
 
 /// The octets of two shelves, and what is looked for on them.
 pub struct Shelves {
@@ -98,7 +94,7 @@ impl Shelves {
 }
 
 /// A tenant or a profile number: few different ones, so that they meet.
-fn number(random: &mut Random) -> u16 {
+pub fn number(random: &mut Random) -> u16 {
     let any = u16::from_be_bytes([random.octet(), random.octet()]);
     random.pick(&[0, 1, 1, 2, 2, 3, 255, 256, 257, 65_534, 65_535, any])
 }
@@ -112,12 +108,12 @@ fn records(public: bool, random: &mut Random) -> Records {
     so_many(many, public, random)
 }
 
-fn few(public: bool, random: &mut Random) -> Records {
+pub fn few(public: bool, random: &mut Random) -> Records {
     let count = random.pick(&[0, 0, 1, 1, 2, 2, 3, 5, 8]);
     so_many(count, public, random)
 }
 
-fn so_many(count: usize, public: bool, random: &mut Random) -> Records {
+pub fn so_many(count: usize, public: bool, random: &mut Random) -> Records {
     let mut records = Records::new();
     while records.len() < count {
         let tenant = if public { 0 } else { number(random).max(1) };
@@ -142,14 +138,14 @@ pub fn any_record(random: &mut Random) -> Vec<u8> {
     }
 }
 
-fn entries(records: Records) -> Vec<Entry> {
+pub fn entries(records: Records) -> Vec<Entry> {
     records
         .into_iter()
         .map(|((tenant, profile), record)| (tenant, profile, record))
         .collect()
 }
 
-fn draft(entries: &[Entry]) -> ShelfDraft {
+pub fn draft(entries: &[Entry]) -> ShelfDraft {
     let records: Vec<(u16, u16, &[u8])> = entries
         .iter()
         .map(|(tenant, profile, record)| (*tenant, *profile, &record[..]))
@@ -158,7 +154,7 @@ fn draft(entries: &[Entry]) -> ShelfDraft {
 }
 
 /// A shelf with one fault.
-fn not_well_formed(public: bool, random: &mut Random) -> Vec<u8> {
+pub fn not_well_formed(public: bool, random: &mut Random) -> Vec<u8> {
     let count = random.pick(&[2, 2, 3, 5, 64]);
     let mut entries = entries(so_many(count, public, random));
     match random.below(7) {

@@ -2,6 +2,7 @@
 
 use crate::errors::Fault;
 use crate::form::{Given, Optional};
+use crate::keep::Place;
 use crate::numbers::{Number, DONE};
 use crate::octets::packed;
 use crate::output::lend;
@@ -25,6 +26,15 @@ pub fn shelves(given: &mut Given) -> shelf::Asked {
     shelf::Asked {
         private: given.octets(),
         public: given.octets(),
+        tenant: given.short(),
+        profile: given.short(),
+    }
+}
+
+/// PRIVATE TENANT PROFILE.
+pub fn place(given: &mut Given) -> Place {
+    Place {
+        private: given.octets(),
         tenant: given.short(),
         profile: given.short(),
     }

@@ -186,6 +186,18 @@ fn requests_about_shelves_are_read() {
         request(b"hcheck 0102 - 65535 0 8 019"),
         read("hcheck", &[&shelves[..], &word].concat())
     );
+    let place = [octets(&[1, 2]), number(65_535), number(0)];
+    assert_eq!(
+        request(b"put 0102 65535 0 - 140000"),
+        read(
+            "put",
+            &[&place[..], &[octets(&[]), number(140_000)]].concat()
+        )
+    );
+    assert_eq!(
+        request(b"remove 0102 65535 0 4"),
+        read("remove", &[&place[..], &[number(4)]].concat())
+    );
 }
 
 /// The kinds that may ask for a checker.
@@ -201,7 +213,7 @@ fn any_words(name: &str) -> Vec<String> {
 #[test]
 fn no_other_request_has_an_optional_word() {
     let has_none = |kind: &&Kind| kind.form.options.is_empty();
-    assert_eq!(KINDS.iter().filter(has_none).count(), 10);
+    assert_eq!(KINDS.iter().filter(has_none).count(), 12);
     for kind in KINDS.iter().filter(has_none) {
         let line = any_words(kind.name).join(" ");
         let read = |ending: &str| request([&line, ending].concat().as_bytes());
@@ -412,7 +424,14 @@ fn the_name_is_no_optional_word() {
 
 #[test]
 fn a_tenant_and_a_profile_fit_into_two_octets() {
-    for line in [&b"lookup - - 65536 0"[..], b"lookup - - 1 65536"] {
+    for line in [
+        &b"lookup - - 65536 0"[..],
+        b"lookup - - 1 65536",
+        b"put - 65536 0 - 0",
+        b"put - 1 65536 - 0",
+        b"remove - 65536 0 0",
+        b"remove - 1 65536 0",
+    ] {
         assert_eq!(request(line), Err(Fault::Number));
     }
 }
@@ -432,6 +451,16 @@ fn a_block_has_room_for_4_096_octets() {
 fn a_record_and_packed_octets_have_room_for_70_000() {
     for name in [&b"profile "[..], b"crcoct 8 "] {
         let asked = |digits: usize| request(&[name, &vec![b'0'; digits]].concat());
+        assert!(asked(2 * SHELF_ROOM).is_ok());
+        assert_eq!(asked(2 * SHELF_ROOM - 1), Err(Fault::Hex));
+        assert_eq!(asked(2 * SHELF_ROOM + 1), Err(Fault::Long));
+    }
+    for (before, behind) in [
+        (&b"put "[..], &b" 1 7 - 0"[..]),
+        (b"put - 1 7 ", b" 0"),
+        (b"remove ", b" 1 7 0"),
+    ] {
+        let asked = |digits: usize| request(&[before, &vec![b'0'; digits], behind].concat());
         assert!(asked(2 * SHELF_ROOM).is_ok());
         assert_eq!(asked(2 * SHELF_ROOM - 1), Err(Fault::Hex));
         assert_eq!(asked(2 * SHELF_ROOM + 1), Err(Fault::Long));
@@ -459,6 +488,8 @@ fn every_request_has_its_count_of_words() {
         ("hsend", 9),
         ("hrecv", 9),
         ("hcheck", 6),
+        ("put", 5),
+        ("remove", 4),
     ] {
         for words in (0..12).filter(|&words| words != count) {
             let line = [name, &" 0".repeat(words)].concat();
@@ -576,6 +607,23 @@ fn words_of_every_kind_are_looked_at_from_left_to_right() {
     let errors = [Fault::Hex, Fault::Number, Fault::Bits, Fault::Long];
     for (place, &error) in errors.iter().enumerate() {
         let line = [&["encode"], &good[..place], &words[place..]].concat();
+        assert_eq!(request(line.join(" ").as_bytes()), Err(error));
+    }
+}
+
+#[test]
+fn words_of_what_is_put_are_looked_at_from_left_to_right() {
+    let words = ["q", "65536", "q", "0", "140001"];
+    let good = ["00", "0", "0", "00", "0"];
+    let errors = [
+        Fault::Hex,
+        Fault::Number,
+        Fault::Number,
+        Fault::Hex,
+        Fault::Long,
+    ];
+    for (place, &error) in errors.iter().enumerate() {
+        let line = [&["put"], &good[..place], &words[place..]].concat();
         assert_eq!(request(line.join(" ").as_bytes()), Err(error));
     }
 }

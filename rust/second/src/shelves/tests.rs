@@ -5,9 +5,12 @@ use std::path::{Path, PathBuf};
 
 use super::text::{self, Fault};
 use super::{make, SHELVES};
-use crate::record::{profile, Coding};
-use crate::samples::{five_sixths, folder, EXTENDED, TOY};
-use crate::shelf::{lookup, Asked, Side};
+use crate::draft::ShelfDraft;
+use crate::generate::samples;
+use crate::random::Random;
+use crate::record::{profile, Coding, Entry, Profile};
+use crate::samples::{five_sixths, folder, half, no_staircase, EXTENDED, TOY};
+use crate::shelf::{lookup, records, Asked, Side};
 
 /// The toy record, as the text of a public shelf.
 const TOY_TEXT: &str = "\
@@ -69,6 +72,170 @@ fn spaces_comments_and_line_ends_change_nothing() {
         .replace('\n', "  # more\r\n\n");
     assert_eq!(public(&wide), public(TOY_TEXT));
     assert_eq!(public(TOY_TEXT.trim_end()), public(TOY_TEXT));
+}
+
+/// A record that 5 refuses, one that 6 refuses and one without octets, about the toy.
+const REFUSED_TEXT: &str = "\
+tenant 3 profile 7 refused 5 octets 3
+0A ff 00
+tenant 3 profile 8 refused 6 octets 26 # shift 1 in a step
+00 01 00 03 00 00 00 01 00 01 00 02 00 0e 00 01
+01 ff 01 00 00 00 ff 01 ff 00
+tenant 3 profile 9 kb 1 m 3 x 0 type 1
+z 2
+0  1 0 -
+1  0 0 0
+-  1 - 0
+tenant 4 profile 7 refused 5 octets 0
+";
+
+fn private(text: &str) -> Result<Vec<u8>, Fault> {
+    text::shelf(text, Side::Private)
+}
+
+#[test]
+fn a_record_that_is_refused_is_written_with_its_octets() {
+    let parts: [(u16, u16, &[u8]); 4] = [
+        (3, 7, &[0x0a, 0xff, 0]),
+        (3, 8, &no_staircase()),
+        (3, 9, &TOY),
+        (4, 7, &[]),
+    ];
+    let shelf = ShelfDraft::new(&parts).octets();
+    assert_eq!(private(REFUSED_TEXT), Ok(shelf.clone()));
+    // Over any number of lines.
+    let other = REFUSED_TEXT
+        .replace("0A ff 00", "0A # ten\n\n  fF\n00")
+        .replace("00 01\n01 ff", "00 01 01 ff");
+    assert_eq!(private(&other), Ok(shelf));
+}
+
+#[test]
+fn octets_are_judged() {
+    for (line, changed, at, what) in [
+        (2, "0A ff", 1, "the record has 2 octets, and 3 are due"),
+        (2, "", 1, "the record has 0 octets, and 3 are due"),
+        (2, "0A ff 00 00", 2, "an octet too many: the record has 3"),
+        (12, "00", 12, "an octet too many: the record has 0"),
+        (
+            2,
+            "0A f 00",
+            2,
+            "`f` is no octet of two hexadecimal digits, and begins no record",
+        ),
+        (
+            2,
+            "0A +f 00",
+            2,
+            "`+f` is no octet of two hexadecimal digits, and begins no record",
+        ),
+        (
+            2,
+            "0Aff00",
+            2,
+            "`0Aff00` is no octet of two hexadecimal digits, and begins no record",
+        ),
+        (
+            2,
+            "z 2",
+            2,
+            "`z` is no octet of two hexadecimal digits, and begins no record",
+        ),
+        (
+            3,
+            "tenant 3 profile 8 refused 5 octets 26",
+            3,
+            "the record is refused with 6, and not with 5",
+        ),
+        (
+            1,
+            "tenant 3 profile 7 refused 6 octets 3",
+            1,
+            "the record is refused with 5, and not with 6",
+        ),
+        (
+            11,
+            "tenant 4 profile 7 refused 6 octets 0",
+            11,
+            "the record is refused with 5, and not with 6",
+        ),
+        (
+            5,
+            "00 ff 01 00 00 00 ff 01 ff 00",
+            3,
+            "the record is accepted, and has to be written with its tables",
+        ),
+        (
+            1,
+            "tenant 3 profile 7 refused 4 octets 3",
+            1,
+            "the number that refuses is `4`, and has to be a number from 5 to 6",
+        ),
+        (
+            1,
+            "tenant 3 profile 7 refused 5 octets 65536",
+            1,
+            "the count of octets is `65536`, and has to be a number from 0 to 65535",
+        ),
+        (
+            11,
+            "tenant 3 profile 9 refused 5 octets 0",
+            11,
+            "tenant 3 profile 9 does not stand above tenant 3 profile 9 before it",
+        ),
+    ] {
+        let mut lines: Vec<&str> = REFUSED_TEXT.lines().collect();
+        lines.resize(12, "");
+        lines[line - 1] = changed;
+        assert_eq!(private(&lines.join("\n")), fault(at, what), "{changed}");
+    }
+}
+
+/// A shelf as a text, to be read back.
+fn as_text(shelf: &[u8], side: Side) -> String {
+    let mut lines = Vec::new();
+    for ((tenant, number), record) in records(shelf, side).unwrap() {
+        let pair = format!("tenant {tenant} profile {number}");
+        match profile(&record) {
+            Ok(Profile {
+                kb,
+                m,
+                x,
+                coding,
+                tables,
+            }) => {
+                let coding = if coding == Coding::One { 1 } else { 2 };
+                lines.push(format!("{pair} kb {kb} m {m} x {x} type {coding}"));
+                for table in tables {
+                    lines.push(format!("z {}", table.z));
+                    lines.extend(table.rows.iter().map(|row| {
+                        let entry = |entry: &Entry| match entry {
+                            Entry::Empty => "-".to_string(),
+                            Entry::Shift(shift) => shift.to_string(),
+                        };
+                        row.iter().map(entry).collect::<Vec<_>>().join(" ")
+                    }));
+                }
+            }
+            Err(refusal) => {
+                lines.push(format!("{pair} refused {refusal} octets {}", record.len()));
+                lines.extend(record.chunks(16).map(|octets| {
+                    let octets: Vec<String> = octets.iter().map(|o| format!("{o:02x}")).collect();
+                    octets.join(" ")
+                }));
+            }
+        }
+    }
+    lines.join("\n")
+}
+
+#[test]
+fn every_well_formed_shelf_has_a_text() {
+    let mut random = Random::new(1);
+    for _ in 0..300 {
+        let (side, shelf) = samples::drawn(&mut random);
+        assert_eq!(text::shelf(&as_text(&shelf, side), side), Ok(shelf));
+    }
 }
 
 #[test]
@@ -152,11 +319,13 @@ fn a_row_has_its_numbers_and_shifts_are_below_z() {
         ),
         (
             "-1 0 0 0",
-            "`-1` begins no row, and no `tenant .. profile .. kb .. m .. x .. type ..` or `z ..` either",
+            "`-1` begins no row, and no `tenant .. profile .. kb .. m .. x .. type ..`, `tenant .. profile .. \
+             refused .. octets ..` or `z ..` either",
         ),
         (
             "tenant 0 profile 8 kb 1 m 3",
-            "`tenant` begins no row, and no `tenant .. profile .. kb .. m .. x .. type ..` or `z ..` either",
+            "`tenant` begins no row, and no `tenant .. profile .. kb .. m .. x .. type ..`, `tenant .. profile .. \
+             refused .. octets ..` or `z ..` either",
         ),
     ] {
         assert_eq!(public(&with_line(6, changed)), fault(6, what));
@@ -349,6 +518,8 @@ fn shipped_record(tenant: u16, number: u16) -> Option<(Side, Vec<u8>)> {
 #[test]
 fn the_repositorys_records_are_accepted_profiles() {
     for (tenant, number, side, parts) in [
+        (1, 12, Side::Public, (12, 12, 3)),
+        (1, 23, Side::Public, (16, 8, 3)),
         (1, 34, Side::Public, (18, 6, 3)),
         (1, 56, Side::Public, (20, 4, 3)),
         (3, 34, Side::Private, (4, 4, 1)),
@@ -372,6 +543,36 @@ fn the_repositorys_records_are_accepted_profiles() {
 fn rate_five_sixths_is_the_sample_that_was_copied_apart() {
     let (_, record) = shipped_record(1, 56).unwrap();
     assert_eq!(record, five_sixths().octets());
+}
+
+#[test]
+fn rate_one_half_is_the_sample_that_was_mended_apart() {
+    let (_, record) = shipped_record(1, 12).unwrap();
+    assert_eq!(record, half().octets());
+}
+
+#[test]
+fn the_mended_tables_have_regular_columns() {
+    let heavy = |often| [often, 3, 3, 3, often, 3, 3, 3, often, 3, 3, 3];
+    let with_4 = [11, 4, 3, 3, 11, 3, 3, 3, 11, 3, 3, 3];
+    for (number, place, due) in [
+        (12, 0, &heavy(12)[..]),
+        (12, 1, &with_4),
+        (12, 2, &with_4),
+        (23, 0, &[8, 8, 8, 6, 4, 4, 4, 4, 4, 3, 3, 3, 3, 3, 3, 3]),
+        (23, 1, &[8, 8, 8, 7, 7, 3, 3, 3, 3, 3, 3, 3, 3, 3, 3, 3]),
+        (23, 2, &[8, 8, 8, 8, 6, 3, 3, 3, 3, 3, 3, 3, 3, 3, 3, 3]),
+    ] {
+        let (_, record) = shipped_record(1, number).unwrap();
+        let profile = profile(&record).unwrap();
+        let rows = &profile.tables[place].rows;
+        let shifts = |column: usize| {
+            let filled = rows.iter().filter(|row| row[column] != Entry::Empty);
+            filled.count()
+        };
+        let counts: Vec<usize> = (0..profile.kb).map(shifts).collect();
+        assert_eq!(counts, due, "{number} {place}");
+    }
 }
 
 #[test]

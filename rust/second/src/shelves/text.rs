@@ -1,14 +1,19 @@
-//! Reads the text of a shelf: records with their tables, one row to a line.
+//! Reads the text of a shelf: records with their tables, one row to a line, and records that no call accepts,
+//! octet by octet.
 //!
 //! Each fault names the line that has to be changed.
+
+mod accepted;
+mod refused;
 
 use std::fmt::{self, Display, Formatter};
 use std::ops::RangeInclusive;
 
-use crate::draft::{Draft, Rows, ShelfDraft, EMPTY};
-use crate::record;
+use crate::draft::ShelfDraft;
 use crate::shelf::{self, Side};
 use crate::words;
+use accepted::Accepted;
+use refused::Refused;
 
 /// What is wrong with a text, and in which line, counted from 1.
 #[derive(Debug, PartialEq, Eq)]
@@ -23,27 +28,17 @@ impl Display for Fault {
     }
 }
 
-/// The tables of a record, at most ("t (1 to 3)").
-const MOST_TABLES: usize = 3;
-
-/// The rows of a table, at most ("m + x at most 40").
-const MOST_ROWS: u16 = 40;
-
 struct Record {
     line: usize,
     tenant: u16,
     profile: u16,
-    kb: u16,
-    m: u16,
-    x: u16,
-    coding: u16,
-    tables: Vec<Table>,
+    contents: Contents,
 }
 
-struct Table {
-    line: usize,
-    z: u16,
-    rows: Rows,
+/// A record is written with its tables where it is accepted, else with its octets.
+enum Contents {
+    Accepted(Accepted),
+    Refused(Refused),
 }
 
 /// The octets of the shelf that a text describes.
@@ -54,18 +49,30 @@ pub fn shelf(text: &str, side: Side) -> Result<Vec<u8>, Fault> {
             [] => Ok(()),
             ["tenant", tenant, "profile", profile, "kb", kb, "m", m, "x", x, "type", coding] => {
                 finish(&records)?;
-                record(line, [tenant, profile, kb, m, x, coding], side)
+                let accepted = || Accepted::new([kb, m, x, coding]).map(Contents::Accepted);
+                record(line, [tenant, profile], accepted, side)
                     .and_then(|record| put(&mut records, record))
             }
-            ["z", z] => {
-                finish_table(&records)?;
-                table(&mut records, line, z)
+            ["tenant", tenant, "profile", profile, "refused", number, "octets", count] => {
+                finish(&records)?;
+                let refused = || Refused::new(number, count).map(Contents::Refused);
+                record(line, [tenant, profile], refused, side)
+                    .and_then(|record| put(&mut records, record))
             }
-            _ => row(&mut records, &words),
+            ["z", _] => {
+                finish_table(&records)?;
+                more(&mut records, line, &words)
+            }
+            _ => more(&mut records, line, &words),
         };
         done.map_err(|what| Fault { line, what })?;
     }
     finish(&records)?;
+    of_records(&records)
+}
+
+/// The shelf of records that have been judged.
+fn of_records(records: &[Record]) -> Result<Vec<u8>, Fault> {
     let octets: Vec<Vec<u8>> = records.iter().map(Record::octets).collect();
     let parts: Vec<(u16, u16, &[u8])> = records
         .iter()
@@ -94,52 +101,30 @@ fn words_of(line: &str) -> Vec<&str> {
 
 impl Record {
     fn octets(&self) -> Vec<u8> {
-        self.octets_with(&self.tables)
-    }
-
-    /// The record with some of its tables.
-    fn octets_with(&self, tables: &[Table]) -> Vec<u8> {
-        let tables = tables.iter().map(|table| (table.z, table.rows.clone()));
-        Draft::of_type(self.coding, self.kb, self.m, self.x, tables.collect()).octets()
-    }
-
-    /// "a table has m + x rows of kb+m+x entries".
-    fn rows(&self) -> usize {
-        usize::from(self.m + self.x)
-    }
-
-    fn columns(&self) -> usize {
-        usize::from(self.kb) + self.rows()
+        match &self.contents {
+            Contents::Accepted(accepted) => accepted.octets(),
+            Contents::Refused(refused) => refused.octets().to_vec(),
+        }
     }
 }
 
 /// A record's first line.
-fn record(line: usize, words: [&str; 6], side: Side) -> Result<Record, String> {
-    let [tenant, profile, kb, m, x, coding] = words;
+fn record(
+    line: usize,
+    [tenant, profile]: [&str; 2],
+    contents: impl FnOnce() -> Result<Contents, String>,
+    side: Side,
+) -> Result<Record, String> {
     let tenants = match side {
         Side::Private => 1..=u16::MAX,
         Side::Public => 0..=0,
     };
-    let record = Record {
+    Ok(Record {
         line,
         tenant: number("the tenant", tenant, tenants)?,
         profile: number("the profile number", profile, 0..=u16::MAX)?,
-        kb: number("kb", kb, 1..=20)?,
-        m: number("m", m, 3..=12)?,
-        x: number("x", x, 0..=37)?,
-        coding: number("the type", coding, 1..=2)?,
-        tables: Vec::new(),
-    };
-    if record.m + record.x > MOST_ROWS {
-        return Err(format!(
-            "m + x is {}, and at most {MOST_ROWS}",
-            record.m + record.x
-        ));
-    }
-    if record.coding == 1 && record.x > 0 {
-        return Err(format!("x is {}, and in type 1 it is 0", record.x));
-    }
-    Ok(record)
+        contents: contents()?,
+    })
 }
 
 /// Puts a record behind the others.
@@ -162,69 +147,21 @@ fn put(records: &mut Vec<Record>, record: Record) -> Result<(), String> {
     Ok(())
 }
 
-/// Begins a table of the last record.
-fn table(records: &mut [Record], line: usize, z: &str) -> Result<(), String> {
-    let record = records
-        .last_mut()
-        .ok_or("a table stands before the first record")?;
-    let z = number("z", z, 1..=81)?;
-    if record.tables.len() == MOST_TABLES {
-        return Err(format!("a record has at most {MOST_TABLES} tables"));
-    }
-    match record.tables.last() {
-        Some(before) if z <= before.z => {
-            return Err(format!(
-                "z {z} does not stand above z {} before it",
-                before.z
-            ));
+/// Any other line than a record's first: a table's first, a row of it, or octets.
+fn more(records: &mut [Record], line: usize, words: &[&str]) -> Result<(), String> {
+    let contents = records.last_mut().map(|record| &mut record.contents);
+    match (contents, words) {
+        (Some(Contents::Refused(refused)), _) => refused.more(words),
+        (Some(Contents::Accepted(accepted)), ["z", z]) => accepted.begin(line, z),
+        (None, ["z", _]) => Err("a table stands before the first record".to_string()),
+        (contents, _) => {
+            accepted::begins_row(words[0])?;
+            match contents {
+                Some(Contents::Accepted(accepted)) => accepted.row(words),
+                _ => Err("a row stands before the first record".to_string()),
+            }
         }
-        _ => record.tables.push(Table {
-            line,
-            z,
-            rows: Vec::new(),
-        }),
     }
-    Ok(())
-}
-
-/// Puts a row into the last table.
-fn row(records: &mut [Record], words: &[&str]) -> Result<(), String> {
-    let first = words[0];
-    if first != "-" && words::short(first.as_bytes()).is_err() {
-        return Err(format!(
-            "`{first}` begins no row, and no `tenant .. profile .. kb .. m .. x .. type ..` or `z ..` either"
-        ));
-    }
-    let record = records
-        .last_mut()
-        .ok_or("a row stands before the first record")?;
-    let (due_rows, due) = (record.rows(), record.columns());
-    let table = record
-        .tables
-        .last_mut()
-        .ok_or("a row stands before the record's first `z ..`")?;
-    let rows = table.rows.len();
-    if rows == due_rows {
-        return Err(format!("a row too many: m + x is {due_rows}"));
-    }
-    if words.len() != due {
-        return Err(format!(
-            "row {rows} has {} numbers, and kb + m + x is {due}",
-            words.len()
-        ));
-    }
-    let entries: Result<Vec<u8>, String> = words.iter().map(|word| entry(word, table.z)).collect();
-    table.rows.push(entries?);
-    Ok(())
-}
-
-/// "255 for empty, else a shift below its z".
-fn entry(word: &str, z: u16) -> Result<u8, String> {
-    if word == "-" {
-        return Ok(EMPTY);
-    }
-    let shift = number("a shift", word, 0..=z - 1)?;
-    Ok(u8::try_from(shift).expect("a shift is below 81"))
 }
 
 fn number(name: &str, word: &str, range: RangeInclusive<u16>) -> Result<u16, String> {
@@ -241,36 +178,21 @@ fn number(name: &str, word: &str, range: RangeInclusive<u16>) -> Result<u16, Str
 /// Judges the last record, where there is one, before another begins or the text ends.
 fn finish(records: &[Record]) -> Result<(), Fault> {
     finish_table(records)?;
-    match records.last() {
-        Some(record) if record.tables.is_empty() => Err(Fault {
-            line: record.line,
-            what: "the record has no table".to_string(),
-        }),
-        _ => Ok(()),
-    }
+    let Some(record) = records.last() else {
+        return Ok(());
+    };
+    let judged = match &record.contents {
+        Contents::Accepted(accepted) => accepted.finish(),
+        Contents::Refused(refused) => refused.finish(),
+    };
+    let line = record.line;
+    judged.map_err(|what| Fault { line, what })
 }
 
 /// Judges the last record's last table, where there is one.
 fn finish_table(records: &[Record]) -> Result<(), Fault> {
-    let Some(record) = records.last() else {
-        return Ok(());
-    };
-    let Some(table) = record.tables.last() else {
-        return Ok(());
-    };
-    let fault = |what: String| {
-        Err(Fault {
-            line: table.line,
-            what,
-        })
-    };
-    let (rows, due) = (table.rows.len(), record.rows());
-    if rows != due {
-        return fault(format!("the table has {rows} rows, and m + x is {due}"));
-    }
-    match record::profile(&record.octets_with(std::slice::from_ref(table))) {
-        Ok(_) => Ok(()),
-        Err(_) if record.x > 0 => fault("the table is no staircase with extension".to_string()),
-        Err(_) => fault("the table is no staircase".to_string()),
+    match records.last().map(|record| &record.contents) {
+        Some(Contents::Accepted(accepted)) => accepted.finish_table(),
+        _ => Ok(()),
     }
 }

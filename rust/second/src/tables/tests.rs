@@ -15,8 +15,7 @@ fn text(count: impl Fn(&Due, usize) -> usize) -> String {
                 lines.push(format!("(a) D = 648 bits, Z={z} bits\n\n```"));
             }
             for line in 0..due.rows() * due.lines {
-                let numbers = ["7", "-1", "12"].into_iter().cycle();
-                let numbers: Vec<&str> = numbers.take(count(&due, line)).collect();
+                let numbers = numbers(&due, line, count(&due, line));
                 lines.push(format!(" {}  ", numbers.join("  ")));
             }
             lines.push("```\n".into());
@@ -24,6 +23,22 @@ fn text(count: impl Fn(&Due, usize) -> usize) -> String {
     }
     lines.push("5.1.4 Rate matching\n\n1 2 3\n".into());
     lines.join("\n")
+}
+
+/// The first numbers of a line. In Type 1 they are those of a staircase behind its first columns.
+fn numbers(due: &Due, line: usize, count: usize) -> Vec<&'static str> {
+    let any = ["7", "-1", "12"].into_iter().cycle();
+    if due.lines == 2 {
+        return any.take(count).collect();
+    }
+    let parity = (0..due.m).map(|j| match j {
+        0 if line == 0 || line == due.m - 1 => "1",
+        0 if line == due.m / 2 => "0",
+        _ if j > 0 && (line == j || line + 1 == j) => "0",
+        _ => "-1",
+    });
+    let row = any.take(due.kb).chain(parity);
+    row.chain(std::iter::repeat("-1")).take(count).collect()
 }
 
 /// What is due in every line.
@@ -67,6 +82,13 @@ fn other_counts_are_marked() {
     }));
     assert!(page.contains("| 5 | 24 | **23** | **23** | **23** |\n"));
     assert!(page.contains("21 of 24 rows"));
+    assert!(page.contains(
+        "\n\n| z | row | numbers | printed from column 16 on | what was lost or too many |\n\
+         |---|---|---|---|---|\n\
+         | 27 | 5 | 23 | `- - - - - 0 0` | 1 empty lost behind 0 0 |\n\
+         | 54 | 5 | 23 | "
+    ));
+    assert_eq!(page.matches("printed from column").count(), 1);
     assert!(page.contains("| 1 | **61** (30 + 31) | **none** | 22 | 1 too many; no 0 |\n"));
     assert!(page.contains("39 of 40 rows"));
     assert_eq!(page.replace("**none**", "").matches("**").count(), 8);
@@ -87,20 +109,60 @@ fn a_table_that_lacks_rows_or_parts_is_an_error() {
     }
 }
 
+fn written(text: &str) -> String {
+    let mut output = Vec::new();
+    public(text, &mut output).unwrap();
+    String::from_utf8(output).unwrap()
+}
+
 #[test]
 fn the_public_text_has_the_numbers_as_printed() {
-    let mut output = Vec::new();
-    public(&text(right), &mut output).unwrap();
-    let written = String::from_utf8(output).unwrap();
+    let written = written(&text(right));
     let (head, records) = written.split_once("\n\n").unwrap();
     assert!(head.lines().all(|line| line.starts_with('#')));
     assert!(records.starts_with(
-        "# Table 5.1.3.2-3: rate 3/4, Type 1.\ntenant 0 profile 34 kb 18 m 6 x 0 type 1\n\n\
-         z 27 # Table 5.1.3.2-3 (a)\n \
-         7  - 12  7  - 12  7  - 12  7  - 12  7  - 12  7  - 12    7  - 12  7  - 12\n"
+        "# Table 5.1.3.2-5: rate 1/2, Type 1; as printed.\n\
+         tenant 0 profile 12 kb 12 m 12 x 0 type 1\n\n\
+         z 27 # Table 5.1.3.2-5 (a); as printed\n \
+         7  - 12  7  - 12  7  - 12  7  - 12    1  0  -  -  -  -  -  -  -  -  -  -\n"
     ));
-    assert_eq!(records.matches("\nz ").count(), 6);
+    assert_eq!(records.matches("\nz ").count(), 12);
     let rows = records.lines().filter(|line| line.starts_with(" 7  - 12"));
-    assert_eq!(rows.count(), 30);
-    assert!(records.contains("\ntenant 0 profile 56 kb 20 m 4 x 0 type 1\n"));
+    assert_eq!(rows.count(), 3 * (12 + 8 + 6 + 4));
+    let heads: Vec<&str> = records
+        .lines()
+        .filter(|line| line.starts_with("tenant"))
+        .collect();
+    assert_eq!(
+        heads[1..],
+        [
+            "tenant 0 profile 23 kb 16 m 8 x 0 type 1",
+            "tenant 0 profile 34 kb 18 m 6 x 0 type 1",
+            "tenant 0 profile 56 kb 20 m 4 x 0 type 1"
+        ]
+    );
+}
+
+#[test]
+fn the_public_text_says_what_is_mended() {
+    let good = written(&text(right));
+    let mended = written(&text(|due, line| match due.number {
+        "5.1.3.2-5" if line == 1 => 22,
+        "5.1.3.2-5" if line == 11 => 24,
+        _ => right(due, line),
+    }));
+    let changed: Vec<(&str, &str)> = good
+        .lines()
+        .zip(mended.lines())
+        .filter(|(left, right)| left != right)
+        .collect();
+    assert_eq!(changed.len(), 4);
+    assert_eq!(
+        changed[0].1,
+        "# Table 5.1.3.2-5: rate 1/2, Type 1; mended, 3 of its 36 rows."
+    );
+    assert_eq!(
+        changed[1].1,
+        "z 27 # Table 5.1.3.2-5 (a); mended, 1 of its 12 rows"
+    );
 }

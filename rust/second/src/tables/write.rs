@@ -3,27 +3,33 @@
 use std::fmt::Display;
 use std::io::{self, Write};
 
+use super::mend::{self, mended};
 use super::{third, Due, FIVE_SIXTHS, HALF, THREE_QUARTERS, TWO_THIRDS};
 
 /// The head of the public shelf's text.
 const HEAD: &str = "\
-# The public shelf of the worked day: the rate 3/4 and 5/6 tables of 5G.212 v2.3, section 5.1.3.2.
+# The public shelf of the worked day: the four rates of Type 1 of 5G.212 v2.3, section 5.1.3.2, for z 27, 54 and 81.
 #
-# The numbers are the printed ones, with - for the printed -1 (empty). docs/TABLES.md counts them row by row.
-# A profile number is its rate: 34 for 3/4, 56 for 5/6.
+# Rates 3/4 and 5/6 are as printed, with - for the printed -1 (empty). In rates 1/2 and 2/3 many rows do not print 24
+# numbers, and were mended: every shift is a printed one, and the empties of the parity part stand where the staircase
+# rule wants them; in one row, rate 2/3, z 81, row 0, an empty was put back before the 8. Each record and each table
+# says how many of its rows were mended. docs/TABLES.md lists them all, and says how sure each table is.
+# A profile number is its rate: 12 for 1/2, 23 for 2/3, 34 for 3/4, 56 for 5/6.
 #
 # The form: a record begins with its tenant (0 on this shelf), profile number, kb, m, x and type. Then follows each z
 # with its table: m + x rows of kb + m + x numbers, one row to a line, - for empty, else the shift. A # begins a
 # comment. Spaces may be put anywhere between numbers; here a wider gap stands before column kb, where the staircase
 # begins. Records rise by tenant and profile number, and the tables of a record by z.
 #
-# After an edit, `second shelves shelves` makes the shelves anew.
+# After an edit, `kuambyte pack public` makes the shelf of this text anew, and `second shelves shelves` makes all the
+# shelves of the folder.
 ";
 
 /// Counts the numbers of every table, row by row, as docs/TABLES.md has them.
 pub fn counts(text: &str, output: &mut impl Write) -> io::Result<()> {
     for due in [FIVE_SIXTHS, THREE_QUARTERS, TWO_THIRDS, HALF] {
         count(&due, text, output)?;
+        mend::list(&due, text, output)?;
         writeln!(output)?;
     }
     third::count(text, output)
@@ -61,20 +67,39 @@ pub fn marked(shown: impl Display, is_due: bool) -> String {
 /// Writes the text of the public shelf.
 pub fn public(text: &str, output: &mut impl Write) -> io::Result<()> {
     output.write_all(HEAD.as_bytes())?;
+    record(&HALF, 12, text, output)?;
+    record(&TWO_THIRDS, 23, text, output)?;
     record(&THREE_QUARTERS, 34, text, output)?;
     record(&FIVE_SIXTHS, 56, text, output)
 }
 
 fn record(due: &Due, profile: u16, text: &str, output: &mut impl Write) -> io::Result<()> {
-    writeln!(output, "\n# Table {}: {}.", due.number, due.title)?;
+    let parts = due.find(text)?;
+    let tables = due.sizes.iter().zip(&parts);
+    let tables: Vec<_> = tables
+        .map(|(&z, part)| Ok((z, mended(due, z, part)?)))
+        .collect::<io::Result<_>>()?;
+    let changes = tables.iter().map(|(_, table)| table.changes.len()).sum();
+    let (number, title) = (due.number, due.title);
+    let how = how(changes, due.rows() * tables.len());
+    writeln!(output, "\n# Table {number}: {title}; {how}.")?;
     head(due, 1, profile, output)?;
-    for ((z, part), letter) in due.sizes.iter().zip(due.find(text)?).zip('a'..) {
-        writeln!(output, "\nz {z} # Table {} ({letter})", due.number)?;
-        for line in part {
-            row(due, &line, output)?;
+    for ((z, table), letter) in tables.iter().zip('a'..) {
+        let how = self::how(table.changes.len(), due.rows());
+        writeln!(output, "\nz {z} # Table {number} ({letter}); {how}")?;
+        for line in &table.rows {
+            row(due, line, output)?;
         }
     }
     Ok(())
+}
+
+/// Whether a table is as printed.
+fn how(changes: usize, rows: usize) -> String {
+    match changes {
+        0 => "as printed".to_string(),
+        _ => format!("mended, {changes} of its {rows} rows"),
+    }
 }
 
 /// A record's first line.

@@ -1,6 +1,6 @@
--- `console::argv::find` meets its contract. The loop counts up to the last word.
-use Prim.Native.Nat.{_-_}
+-- `console::argv::find` meets its contract. The loop goes forward, from one word or option to the next.
 use borrow.Author.Needs.{needs}
+use Prim.Native.Nat.{_-_}
 use Rattle.console.proofs.argv.find.Statement.{statement}
 use Rattle.console.proofs.argv.find.Tie as tie
 
@@ -22,8 +22,8 @@ is-word-requires c κs = search needs
 returns : tie.Need-returns Inv-loop μ-loop
 returns c = search needs
 
-add-i : tie.Need-add-i Inv-loop μ-loop
-add-i c = search needs
+past-requires : tie.Need-past-requires Inv-loop μ-loop
+past-requires c κs = search needs
 
 loop-less : tie.Need-loop-less Inv-loop μ-loop
 loop-less c = search needs
@@ -44,7 +44,7 @@ find-spec =
     loop-holds
     is-word-requires
     returns
-    add-i
+    past-requires
     loop-less
     loop-again
     returns-2)

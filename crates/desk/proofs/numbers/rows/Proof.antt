@@ -10,7 +10,7 @@ abbrev Inv-loop : tie.InvT-loop
 Inv-loop page₀ from at₀ number₀ page at number = length page ≡ length page₀
 
 abbrev μ-loop : tie.MeasureT-loop
-μ-loop page₀ from at₀ number₀ page at number = 26 - number
+μ-loop page₀ from at₀ number₀ page at number = 27 - number
 
 loop-holds : tie.Need-loop-holds Inv-loop μ-loop
 loop-holds c = search needs

@@ -1,0 +1,52 @@
+-- `drawing::show::put_grids` meets its contract. The loop's invariant: the page keeps its length.
+use borrow.Author.Needs.{needs}
+use Prim.Native.Nat.{_-_}
+use lib.ListN.{length}
+use mathlib.Core.Path.{_≡_}
+use Rattle.drawing.proofs.show.put_grids.Statement.{statement}
+use Rattle.drawing.proofs.show.put_grids.Tie as tie
+
+abbrev Inv-loop : tie.InvT-loop
+Inv-loop «record» t page₀ at end₀ i₀ page end i = length page ≡ length page₀
+
+abbrev μ-loop : tie.MeasureT-loop
+μ-loop «record» t page₀ at end₀ i₀ page end i = t - i
+
+loop-holds : tie.Need-loop-holds Inv-loop μ-loop
+loop-holds c = search needs
+
+of-requires : tie.Need-of-requires Inv-loop μ-loop
+of-requires c κs = search needs
+
+put-requires : tie.Need-put-requires Inv-loop μ-loop
+put-requires c κs = search needs
+
+add-i : tie.Need-add-i Inv-loop μ-loop
+add-i c = search needs
+
+loop-less : tie.Need-loop-less Inv-loop μ-loop
+loop-less c = search needs
+
+loop-again : tie.Need-loop-again Inv-loop μ-loop
+loop-again c = search needs
+
+same-length : tie.Need-same-length Inv-loop μ-loop
+same-length c = search needs
+
+returns : tie.Need-returns Inv-loop μ-loop
+returns c = search needs
+
+pub put-grids-spec : {M : Type 1} → statement M
+put-grids-spec =
+    tie.close
+    (tie.spec
+    Inv-loop
+    μ-loop
+    loop-holds
+    of-requires
+    put-requires
+    add-i
+    loop-less
+    loop-again
+    same-length
+    returns)

@@ -1,0 +1,3 @@
+pub mod Entries
+pub mod Promises
+pub mod steps

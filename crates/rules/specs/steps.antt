@@ -1,0 +1,3 @@
+-- What inner contracts cite; no reader of the promises needs it.
+pub mod Walks
+pub mod Sizes
