@@ -9,15 +9,20 @@ pub fn left(all: usize, used: usize) -> usize {
     all - used
 }
 
+// How often a number goes into another, and 0 times where it is 0.
+pub fn per(all: usize, each: usize) -> usize {
+    if each == 0 {
+        return 0;
+    }
+    all / each
+}
+
 // Puts a rate in lowest terms, with spaces before it up to a width of its first number.
 pub fn put_rate(part: usize, whole: usize, width: usize, page: &mut [u8], at: usize) -> usize {
     let common = common_divisor(part, whole);
-    if common == 0 {
-        return at;
-    }
-    let a = page::right(part / common, width, page, at);
+    let a = page::right(per(part, common), width, page, at);
     let b = page::put(b"/", page, a);
-    page::decimal(whole / common, page, b)
+    page::decimal(per(whole, common), page, b)
 }
 
 // The greatest common divisor, by Euclid's way: 0 only of two noughts.

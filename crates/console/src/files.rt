@@ -27,6 +27,13 @@ pub fn bits_room() -> [u8; 65537]
     [0; 65537]
 }
 
+// No offset and length reach further together: of a shelf that is too long the rule is found that it breaks.
+pub fn shelf_room() -> [u8; 131072]
+    ensures { λ r. ⌜ 131072 ≡ length r ⌝ }
+{
+    [0; 131072]
+}
+
 // How much of a file was read into a store. Reading stops where the store is full.
 pub struct Taken {
     pub count: usize,

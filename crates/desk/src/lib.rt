@@ -24,8 +24,9 @@ pub fn run() -> i32 {
     if words < 2 {
         return help::missing();
     }
-    if !is_help(line_of(1)) {
-        return command(line_of(1), 1, argv::all_words());
+    let line = line_of(1);
+    if !is_help(line) {
+        return command(line, 1, argv::all_words());
     }
     if words == 2 {
         return help::run();

@@ -22,7 +22,7 @@ pub struct Scale {
 // A small matrix has more units to a place, so that every measure is a whole number. The margins are a twentieth and a tenth of the width.
 fn scale_of(shape: Shape) -> Scale {
     let wide = parts::times(shape.columns(), shape.z);
-    let place = octets::least(per(WIDTH, wide), WIDTH) + 1;
+    let place = octets::least(counted::per(WIDTH, wide), WIDTH) + 1;
     let all = parts::times(wide, place);
     Scale {
         place,
@@ -30,14 +30,6 @@ fn scale_of(shape: Shape) -> Scale {
         top: all / 10,
         letter: all / 100,
     }
-}
-
-// How often a number goes into another.
-fn per(all: usize, each: usize) -> usize {
-    if each == 0 {
-        return 0;
-    }
-    all / each
 }
 
 // So many groups of places, in units; from the left, and from above.
@@ -85,7 +77,7 @@ fn put_head(shape: Shape, scale: Scale, page: &mut [u8], at: usize) -> usize {
 
 // A height as it is shown, where so many units are shown WIDTH wide.
 fn shown(high: usize, wide: usize) -> usize {
-    per(parts::times(octets::least(high, 65535), WIDTH), wide)
+    counted::per(parts::times(octets::least(high, 65535), WIDTH), wide)
 }
 
 // What it is, and below that what is drawn.

@@ -224,7 +224,8 @@ pub fn table(line: &[u8], state: State) -> State {
     if state.t >= 3 {
         return state.fails(first.from, fault::TABLES, 0, 0);
     }
-    let low = more(last_size(state));
+    // "z (1 to 81, strictly rising)"
+    let low = more(state.size());
     let a = numbered(line, 1, low, 81, state);
     let b = ended(line, 2, a);
     if b.bad {
@@ -238,19 +239,6 @@ fn expected(t: usize) -> usize {
         return fault::FIRST_SIZE;
     }
     fault::SIZE
-}
-
-// The size of the table before, or 0: "z (1 to 81, strictly rising)".
-fn last_size(state: State) -> usize {
-    let t = state.t;
-    let sizes = state.sizes;
-    if t == 0 {
-        return 0;
-    }
-    if t > 3 {
-        return 0;
-    }
-    sizes[t - 1]
 }
 
 fn sized(span: Span, line: &[u8], state: State) -> State {

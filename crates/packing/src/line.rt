@@ -18,29 +18,22 @@ fn is_space(character: u8) -> bool {
     list::has(b" \n\t\n\r\n", &[character])
 }
 
-// The first place from `from` on where no space stands.
-fn skip(line: &[u8], from: usize) -> usize
-    requires { ⌜ from ≤ length (now line) ⌝ }
-    ensures { λ r. ⌜ (from ≤ r) × (r ≤ length (now (line .entry))) ⌝ }
-{
-    let mut i = from;
-    while i < line.len() {
-        if !is_space(line[i]) {
-            return i;
-        }
-        i += 1;
+// Whether a character is a space, or is none.
+fn is_of(space: bool, character: u8) -> bool {
+    if space {
+        return is_space(character);
     }
-    i
+    !is_space(character)
 }
 
-// The first place from `from` on where one stands.
-fn end_of(line: &[u8], from: usize) -> usize
+// The first place from `from` on behind the spaces, or behind what is none.
+fn pass(space: bool, line: &[u8], from: usize) -> usize
     requires { ⌜ from ≤ length (now line) ⌝ }
     ensures { λ r. ⌜ (from ≤ r) × (r ≤ length (now (line .entry))) ⌝ }
 {
     let mut i = from;
     while i < line.len() {
-        if is_space(line[i]) {
+        if !is_of(space, line[i]) {
             return i;
         }
         i += 1;
@@ -51,8 +44,8 @@ fn end_of(line: &[u8], from: usize) -> usize
 // The next word from a place on.
 pub fn next(line: &[u8], at: usize) -> Span {
     let start = octets::least(at, line.len());
-    let from = skip(line, start);
-    let end = end_of(line, from);
+    let from = pass(true, line, start);
+    let end = pass(false, line, from);
     Span {
         from,
         size: end - from,

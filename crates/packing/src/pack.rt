@@ -77,12 +77,12 @@ fn read(private: bool) -> i32 {
 fn answer(private: bool, text: &[u8]) -> i32 {
     let mut tables = rooms::tables();
     let mut entries = rooms::entries();
-    let mut records = rooms::shelf();
+    let mut records = files::shelf_room();
     let state = take_all(text, private, &mut tables, &mut entries, &mut records);
     if state.bad {
         return complain(text, &records, state);
     }
-    let mut shelf = rooms::shelf();
+    let mut shelf = files::shelf_room();
     let n = compose(&entries, &records, &mut shelf, state);
     write(private, octets::first(&shelf, n))
 }

@@ -11,14 +11,6 @@ pub fn text() -> [u8; TEXT]
     [0; TEXT]
 }
 
-// No offset and length reach further together: of a shelf which is too long the rule is found that it breaks, and the records of one that is packed have room
-// with one that is too many.
-pub fn shelf() -> [u8; 131072]
-    ensures { λ r. ⌜ 131072 ≡ length r ⌝ }
-{
-    [0; 131072]
-}
-
 // The octets of three tables of the largest kind.
 pub fn tables() -> [u8; 7200]
     ensures { λ r. ⌜ 7200 ≡ length r ⌝ }

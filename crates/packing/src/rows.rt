@@ -61,7 +61,7 @@ fn entry(line: &[u8], span: Span, k: usize, tables: &mut [u8], state: State) -> 
     if octets::same(line::word(line, span), b"-") {
         return kept(EMPTY, tables, state);
     }
-    let most = less(size(state));
+    let most = less(state.size());
     let shift = line::number(line, span);
     if shift > most {
         return no_entry(span, k, most, state);
@@ -99,19 +99,6 @@ fn kept(octet: u8, tables: &mut [u8], state: State) -> State {
     let mut next = state;
     next.filled = page::put(&[octet], tables, state.filled);
     next
-}
-
-// The z of the table that is begun.
-fn size(state: State) -> usize {
-    let t = state.t;
-    let sizes = state.sizes;
-    if t == 0 {
-        return 0;
-    }
-    if t > 3 {
-        return 0;
-    }
-    sizes[t - 1]
 }
 
 // A line of octets. They go to the store of records, behind those that are whole. No line has more words than characters.

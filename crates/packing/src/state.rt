@@ -96,4 +96,17 @@ impl State {
         }
         self.m + self.x
     }
+
+    // The z of the last table that is begun, or 0.
+    pub fn size(self) -> usize {
+        let t = self.t;
+        let sizes = self.sizes;
+        if t == 0 {
+            return 0;
+        }
+        if t > 3 {
+            return 0;
+        }
+        sizes[t - 1]
+    }
 }

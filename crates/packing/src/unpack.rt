@@ -48,7 +48,7 @@ the number that refuses it. docs/SHELVES.md has the form of a text.
 }
 
 fn read(private: bool) -> i32 {
-    let mut store = rooms::shelf();
+    let mut store = files::shelf_room();
     let input = files::input(false, &mut store);
     if input.failed {
         return status::FAILED;

@@ -6,6 +6,7 @@ use crate::heads;
 use crate::state;
 use crate::state::State;
 use bits::number::DONE;
+use console::counted;
 use console::page;
 use console::parts;
 use text::octets;
@@ -75,7 +76,7 @@ fn pairs(filled: usize, records: &mut [u8], at: usize, state: State) -> usize {
     let sizes = state.sizes;
     let t = octets::least(state.t, 3);
     let first = sum(10, parts::times(4, t));
-    let step = each(filled, t);
+    let step = counted::per(filled, t);
     let mut end = at;
     let mut i = 0;
     while i < t {
@@ -84,14 +85,6 @@ fn pairs(filled: usize, records: &mut [u8], at: usize, state: State) -> usize {
         i += 1;
     }
     end
-}
-
-// The octets of one of t tables.
-fn each(filled: usize, t: usize) -> usize {
-    if t == 0 {
-        return 0;
-    }
-    filled / t
 }
 
 // The record is judged by the library. It has to be accepted or, where it is given as octets, refused with the number that the text says.

@@ -5,6 +5,7 @@ use console::page;
 use console::parts;
 use libc::STDERR_FILENO;
 use rules::Wrong;
+use rules::record_rule;
 use text::octets;
 
 // Says that a record is refused, by which rule and where, and answers the exit status.
@@ -60,13 +61,13 @@ fn put(octets: &[u8], line: &mut [u8], at: usize) -> usize {
 // The rules of the header say the octet, those of a pair the table too, and those of an entry where it stands in its table.
 fn put_place(wrong: Wrong, octets: &[u8], line: &mut [u8], at: usize) -> usize {
     let rule = wrong.rule;
-    if rule < 10 {
+    if rule < record_rule::Z {
         return page::form(b" (octet #)", &[wrong.at], line, at);
     }
-    if rule == 14 {
+    if rule == record_rule::END {
         return page::form(b" (octet #)", &[wrong.at], line, at);
     }
-    if rule < 15 {
+    if rule < record_rule::ENTRY {
         return page::form(b" (table #, octet #)", &[wrong.table, wrong.at], line, at);
     }
     let z = size(octets, wrong.table);

@@ -5,6 +5,7 @@ use console::meanings;
 use console::page;
 use libc::STDERR_FILENO;
 use rules::Broken;
+use rules::shelf_rule;
 use text::octets;
 
 // Says that a shelf is refused, by which rule and where, and answers the exit status.
@@ -39,9 +40,15 @@ fn put(broken: Broken, line: &mut [u8], at: usize) -> usize {
 
 // The rules of one entry say which.
 fn put_place(broken: Broken, line: &mut [u8], at: usize) -> usize {
-    let rule = broken.rule;
-    match rule {
-        4 | 5 | 6 | 9 => page::form(b" (entry #, octet #)", &[broken.entry, broken.at], line, at),
-        _ => page::form(b" (octet #)", &[broken.at], line, at),
+    if is_of_entry(broken.rule) {
+        return page::form(b" (entry #, octet #)", &[broken.entry, broken.at], line, at);
     }
+    page::form(b" (octet #)", &[broken.at], line, at)
+}
+
+fn is_of_entry(rule: usize) -> bool {
+    if rule == shelf_rule::TENANT {
+        return true;
+    }
+    bits::inner::is_within(shelf_rule::PAIRS, shelf_rule::NEXT_OFFSET, rule)
 }

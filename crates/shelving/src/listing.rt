@@ -50,7 +50,7 @@ Words may also be given by name, in any order: --kind KIND --file FILE.
 }
 
 fn read(private: bool) -> i32 {
-    let mut store = hosted::shelves::room();
+    let mut store = files::shelf_room();
     let file = files::named(&NAMES, b"--file", &mut store);
     if file.failed {
         return status::FAILED;

@@ -52,7 +52,7 @@ Words may also be given by name, in any order: --private PRIVATE --tenant TENANT
 }
 
 fn read(asked: Parameters) -> i32 {
-    let mut store = hosted::shelves::room();
+    let mut store = files::shelf_room();
     let file = files::named(&NAMES, b"--private", &mut store);
     if file.failed {
         return status::FAILED;
@@ -61,7 +61,7 @@ fn read(asked: Parameters) -> i32 {
 }
 
 fn read_record(asked: Parameters, private: &[u8]) -> i32 {
-    let mut store = hosted::shelves::room();
+    let mut store = files::shelf_room();
     let input = files::input(false, &mut store);
     if input.failed {
         return status::FAILED;
@@ -70,7 +70,7 @@ fn read_record(asked: Parameters, private: &[u8]) -> i32 {
 }
 
 fn answer(asked: Parameters, private: &[u8], record: &[u8]) -> i32 {
-    let mut shelf = hosted::shelves::room();
+    let mut shelf = files::shelf_room();
     let put = keeping::put_record(private, asked.tenant, asked.profile, record, &mut shelf);
     if put.number != DONE {
         return refuse(put.number, asked, private, record);

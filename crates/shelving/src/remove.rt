@@ -48,7 +48,7 @@ Words may also be given by name, in any order: --private PRIVATE --tenant TENANT
 }
 
 fn read(asked: Parameters) -> i32 {
-    let mut store = hosted::shelves::room();
+    let mut store = files::shelf_room();
     let file = files::named(&NAMES, b"--private", &mut store);
     if file.failed {
         return status::FAILED;
@@ -57,7 +57,7 @@ fn read(asked: Parameters) -> i32 {
 }
 
 fn answer(asked: Parameters, private: &[u8]) -> i32 {
-    let mut shelf = hosted::shelves::room();
+    let mut shelf = files::shelf_room();
     let removed = keeping::remove_record(private, asked.tenant, asked.profile, &mut shelf);
     if removed.number != DONE {
         return refuse(removed.number, asked, private);

@@ -21,8 +21,8 @@ times-requires c κs = search needs
 sum-requires : tie.Need-sum-requires Inv-loop μ-loop
 sum-requires c κs = search needs
 
-each-requires : tie.Need-each-requires Inv-loop μ-loop
-each-requires c κs = search needs
+per-requires : tie.Need-per-requires Inv-loop μ-loop
+per-requires c κs = search needs
 
 loop-holds : tie.Need-loop-holds Inv-loop μ-loop
 loop-holds c = search needs
@@ -69,7 +69,7 @@ pairs-spec =
     least-requires
     times-requires
     sum-requires
-    each-requires
+    per-requires
     loop-holds
     mul-put-two
     array-read-put-two
