@@ -84,7 +84,7 @@ fn version(record: &[u8], line: &mut [u8], at: usize) -> usize {
     if profile::inner::kind(record) == 1 {
         return page::put(b"; this profile is of Type 1, so it is 0", line, at);
     }
-    page::put(b"; 0 to 3 are accepted", line, at)
+    page::put(b"; this profile is of Type 2, so it is 0 to 3", line, at)
 }
 
 // The least G with which every code block has room.

@@ -53,7 +53,7 @@ fn row_ended(span: Span, state: State) -> State {
     next
 }
 
-// One entry: - or a shift below the table's z. A line that does not begin with one is no row.
+// One entry: - or a shift below the table's z.
 fn entry(line: &[u8], span: Span, k: usize, tables: &mut [u8], state: State) -> State {
     if span.size == 0 {
         return state.fails(span.from, fault::ENTRY, more(k), columns(state));
@@ -64,28 +64,24 @@ fn entry(line: &[u8], span: Span, k: usize, tables: &mut [u8], state: State) -> 
     let most = less(state.size());
     let shift = line::number(line, span);
     if shift > most {
-        return no_entry(span, k, most, state);
+        return no_entry(line, span, most, state);
     }
     kept(octet(shift), tables, state)
 }
 
-fn no_entry(span: Span, k: usize, most: usize, state: State) -> State {
-    if k > 0 {
-        return state.fails(span.from, fault::SHIFT, most, 0);
-    }
-    let rows = state.rows();
-    if state.due > rows {
-        return state.fails(span.from, fault::SHIFT, most, 0);
-    }
-    if is_tenant(span) {
-        return state.fails(span.from, fault::ROW, more(rows - state.due), rows);
+// A line that begins something else stands where a row is due.
+fn no_entry(line: &[u8], span: Span, most: usize, state: State) -> State {
+    if is_head(line) {
+        return state.fails(span.from, fault::ROW, state.row_due(), state.rows());
     }
     state.fails(span.from, fault::SHIFT, most, 0)
 }
 
-// A word that is too long for a shift is the beginning of another line.
-fn is_tenant(span: Span) -> bool {
-    span.size > 3
+fn is_head(line: &[u8]) -> bool {
+    if line::is(line, 0, b"z") {
+        return true;
+    }
+    line::is(line, 0, b"tenant")
 }
 
 fn octet(n: usize) -> u8 {

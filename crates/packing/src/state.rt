@@ -97,6 +97,15 @@ impl State {
         self.m + self.x
     }
 
+    // Which row of the table that is begun is due, counted from 1.
+    pub fn row_due(self) -> usize {
+        let rows = self.rows();
+        if self.due > rows {
+            return rows;
+        }
+        more(rows - self.due)
+    }
+
     // The z of the last table that is begun, or 0.
     pub fn size(self) -> usize {
         let t = self.t;

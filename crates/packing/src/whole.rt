@@ -25,7 +25,7 @@ pub fn ended(tables: &[u8], entries: &mut [u8], records: &mut [u8], state: State
         return ended_octets(entries, records, state);
     }
     if state.phase == state::ROWS {
-        return state.fails(0, fault::ROW, missing_row(state), state.rows());
+        return state.fails(0, fault::ROW, state.row_due(), state.rows());
     }
     if state.t == 0 {
         return state.fails(0, fault::FIRST_SIZE, 0, 0);
@@ -37,14 +37,6 @@ pub fn ended(tables: &[u8], entries: &mut [u8], records: &mut [u8], state: State
         return state.fails(0, fault::ROOM, 0, 0);
     }
     judged(DONE, entries, records, next)
-}
-
-fn missing_row(state: State) -> usize {
-    let rows = state.rows();
-    if state.due > rows {
-        return rows;
-    }
-    more(rows - state.due)
 }
 
 fn size(start: usize, end: usize) -> usize {
