@@ -55,6 +55,7 @@ fn width(word: &[u8]) -> usize
 --layers
 --order
 --bits
+--length
 --octets
 --record
 --kind

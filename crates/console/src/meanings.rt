@@ -16,16 +16,16 @@ neither shelf has the record
 the profile record is not well formed
 a table of the profile is no staircase, or its extension is wrong
 the transport block is not 1 to 2048 octets
-N_L, Q_m or G is not one that can be sent with
+N_L, Q_m, G or E is not one that can be sent with
 the block takes more than 64 code blocks, or in edition 2 a code block has no room beside its checksum
 G has fewer symbol places than there are code blocks
 the output is shorter than the result
 a received octet is over 1
-a code block has no room for all its coded bits
-no block is sent as these bits
+there is no room for all coded bits
+nothing is sent as these bits
 unused: never answered, since every code block has parity bits with which it checks
 the redundancy version is over 3, or is not 0 and the profile is of Type 1
-
+the control word is not 6 to 128 bits
 
 the edition is not 1 or 2
 

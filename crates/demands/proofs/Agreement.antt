@@ -27,6 +27,8 @@ use Rattle.checking.specs.declared.Verdict.{Verdict}
 use Rattle.checking.proofs.Agreement.{word-checked-agree, rows-summed-agree}
 use Rattle.matching.specs.Promises.{RateMatched}
 use Rattle.matching.proofs.Agreement.{rate-match-agree}
+use Rattle.control.specs.Promises.{WordCoded, StreamsMatched, WordSent, StreamsFound}
+use Rattle.control.proofs.Agreement.{wrote-agree}
 use Rattle.coding.specs.Promises.{Sent, Received}
 use Rattle.coding.proofs.Agreement.{send-agree, receive-agree}
 use Rattle.shelf.specs.Lookup.{lookupNumber}
@@ -101,6 +103,21 @@ send a b = send-agree a b
 pub receive : {R : List ℕ} {a : ℕ} {terms : Terms} {bits out : List ℕ} {r r' : Written} {o o' : List ℕ}
     → Received R a terms bits out r o → Received R a terms bits out r' o' → (r ≡ r') × (o ≡ o')
 receive a b = receive-agree a b
+
+-- ---- control::code_word, control::match_streams, control::send_word, control::streams_of
+
+pub code-word : (c : List ℕ) {out : List ℕ} {r r' : Written} {o o' : List ℕ} → WordCoded c out r o → WordCoded c out r' o' → (r ≡ r') × (o ≡ o')
+code-word c a b = wrote-agree a b
+
+pub match-streams : (D : ℕ) (S : List ℕ) (e : ℕ) {out : List ℕ} {r r' : Written} {o o' : List ℕ}
+    → StreamsMatched D S e out r o → StreamsMatched D S e out r' o' → (r ≡ r') × (o ≡ o')
+match-streams D S e a b = wrote-agree a b
+
+pub send-word : (c : List ℕ) (e : ℕ) {out : List ℕ} {r r' : Written} {o o' : List ℕ} → WordSent c e out r o → WordSent c e out r' o' → (r ≡ r') × (o ≡ o')
+send-word c e a b = wrote-agree a b
+
+pub streams-of : (D : ℕ) (bits : List ℕ) {out : List ℕ} {r r' : Written} {o o' : List ℕ} → StreamsFound D bits out r o → StreamsFound D bits out r' o' → (r ≡ r') × (o ≡ o')
+streams-of D bits a b = wrote-agree a b
 
 -- ---- advice::least_bits
 

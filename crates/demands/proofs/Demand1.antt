@@ -39,6 +39,13 @@ use Rattle.checking.specs.declared.Verdict.{Verdict}
 use Rattle.matching.specs.Matching.{turned, startOf, matchedFrom}
 use Rattle.matching.specs.Promises.{matchConditions, matchNumber, RateMatched}
 use Rattle.matching.proofs.Heard.{matched-length}
+use Rattle.control.specs.Register.{streams}
+use Rattle.control.specs.Interleaver.{sent}
+use Rattle.control.specs.Back.{streamsAs}
+use Rattle.control.specs.Promises.{codeWordConditions, codeWordNumber, WordCoded, matchStreamsConditions, matchStreamsNumber, StreamsMatched, sendWordConditions, sendWordNumber, WordSent, streamsOfConditions, streamsOfNumber, StreamsFound, Wrote}
+use Rattle.control.proofs.Registers.{length-streams}
+use Rattle.control.proofs.Sending.{length-sent}
+use Rattle.control.proofs.Backwards.{found-length}
 use Rattle.coding.specs.Joining.{radioBits}
 use Rattle.coding.specs.Receiving.{receivedBlock}
 use Rattle.coding.specs.Promises.{sendConditions, sendNumber, Sent, receiveConditions, receiveNumber, Received}
@@ -322,6 +329,107 @@ receive-confined {R} {a} {terms} {bits} h = outputs.confined (receive-fits R a t
 pub receive-alike : {R : List ℕ} {a : ℕ} {terms : Terms} {bits out : List ℕ} {r : Written} {o other : List ℕ} {s : Written} {u : List ℕ} → length out ≡ length other
     → Received R a terms bits out r o → Received R a terms bits other s u → Alike r o s u
 receive-alike {R} {a} {terms} {bits} e h k = outputs.alike (receive-fits R a terms bits) e (receive-writes h) (receive-writes k)
+
+-- control::code_word, control::match_streams, control::send_word, control::streams_of
+wrote-writes : (n : ℕ → ℕ) (k : ℕ) (w : List ℕ) {out : List ℕ} {r : Written} {o : List ℕ} → Wrote (n (length out)) k w out r o → outputs.Writes n k w out r o
+wrote-writes n k w a = record { number = a .number; count = a .count; output = a .output }
+
+module _ (c : List ℕ) where
+  code-word-answers : (room : ℕ) {r : ℕ} → r ≡ codeWordNumber c room → Answers r (codeWordConditions c room)
+  unfolding codeWordNumber Refusals
+  code-word-answers room q = answers (codeWordConditions c room) tt q
+
+  code-word-fits : outputs.Fitting (codeWordNumber c) (length c + length c + length c) (streams c)
+  unfolding NoneHolds
+  code-word-fits =
+      record {
+        size = λ room e. length-streams c;
+        room = λ room e. let h = code-word-answers room (sym e) .only-done refl in ltb-false room (length c + length c + length c) (h .1 .0);
+      }
+
+  pub code-word-number : {out : List ℕ} {r : Written} {o : List ℕ} → WordCoded c out r o → Answers (r .number) (codeWordConditions c (length out))
+  code-word-number {out} a = code-word-answers (length out) (a .number)
+
+  pub code-word-confined : {out : List ℕ} {r : Written} {o : List ℕ} → WordCoded c out r o → Confined out r o
+  code-word-confined a = outputs.confined code-word-fits (wrote-writes (codeWordNumber c) _ (streams c) a)
+
+  pub code-word-alike : {out : List ℕ} {r : Written} {o other : List ℕ} {s : Written} {u : List ℕ} → length out ≡ length other
+      → WordCoded c out r o → WordCoded c other s u → Alike r o s u
+  code-word-alike e a b =
+      outputs.alike code-word-fits e (wrote-writes (codeWordNumber c) _ (streams c) a) (wrote-writes (codeWordNumber c) _ (streams c) b)
+
+module _ (D : ℕ) (S : List ℕ) (e : ℕ) where
+  match-streams-answers : (room : ℕ) {r : ℕ} → r ≡ matchStreamsNumber D S e room → Answers r (matchStreamsConditions D S e room)
+  unfolding matchStreamsNumber Refusals
+  match-streams-answers room q = answers (matchStreamsConditions D S e room) tt q
+
+  match-streams-fits : outputs.Fitting (matchStreamsNumber D S e) e (sent D S e)
+  unfolding NoneHolds
+  match-streams-fits =
+      record {
+        size = λ room q. length-sent D S e;
+        room = λ room q. let h = match-streams-answers room (sym q) .only-done refl in ltb-false room e (h .1 .1 .0);
+      }
+
+  pub match-streams-number : {out : List ℕ} {r : Written} {o : List ℕ} → StreamsMatched D S e out r o
+      → Answers (r .number) (matchStreamsConditions D S e (length out))
+  match-streams-number {out} a = match-streams-answers (length out) (a .number)
+
+  pub match-streams-confined : {out : List ℕ} {r : Written} {o : List ℕ} → StreamsMatched D S e out r o → Confined out r o
+  match-streams-confined a = outputs.confined match-streams-fits (wrote-writes (matchStreamsNumber D S e) e (sent D S e) a)
+
+  pub match-streams-alike : {out : List ℕ} {r : Written} {o other : List ℕ} {s : Written} {u : List ℕ} → length out ≡ length other
+      → StreamsMatched D S e out r o → StreamsMatched D S e other s u → Alike r o s u
+  match-streams-alike q a b =
+      outputs.alike match-streams-fits q (wrote-writes (matchStreamsNumber D S e) e (sent D S e) a) (wrote-writes (matchStreamsNumber D S e) e (sent D S e) b)
+
+module _ (c : List ℕ) (e : ℕ) where
+  send-word-answers : (room : ℕ) {r : ℕ} → r ≡ sendWordNumber c e room → Answers r (sendWordConditions c e room)
+  unfolding sendWordNumber Refusals
+  send-word-answers room q = answers (sendWordConditions c e room) tt q
+
+  send-word-fits : outputs.Fitting (sendWordNumber c e) e (sent (length c) (streams c) e)
+  unfolding NoneHolds
+  send-word-fits =
+      record {
+        size = λ room q. length-sent (length c) (streams c) e;
+        room = λ room q. let h = send-word-answers room (sym q) .only-done refl in ltb-false room e (h .1 .1 .0);
+      }
+
+  pub send-word-number : {out : List ℕ} {r : Written} {o : List ℕ} → WordSent c e out r o → Answers (r .number) (sendWordConditions c e (length out))
+  send-word-number {out} a = send-word-answers (length out) (a .number)
+
+  pub send-word-confined : {out : List ℕ} {r : Written} {o : List ℕ} → WordSent c e out r o → Confined out r o
+  send-word-confined a = outputs.confined send-word-fits (wrote-writes (sendWordNumber c e) e _ a)
+
+  pub send-word-alike : {out : List ℕ} {r : Written} {o other : List ℕ} {s : Written} {u : List ℕ} → length out ≡ length other
+      → WordSent c e out r o → WordSent c e other s u → Alike r o s u
+  send-word-alike q a b = outputs.alike send-word-fits q (wrote-writes (sendWordNumber c e) e _ a) (wrote-writes (sendWordNumber c e) e _ b)
+
+module _ (D : ℕ) (bits : List ℕ) where
+  streams-of-answers : (room : ℕ) {r : ℕ} → r ≡ streamsOfNumber D bits room → Answers r (streamsOfConditions D bits room)
+  unfolding streamsOfNumber Refusals
+  streams-of-answers room q = answers (streamsOfConditions D bits room) tt q
+
+  streams-of-fits : outputs.Fitting (streamsOfNumber D bits) (D + D + D) (streamsAs D bits)
+  unfolding NoneHolds
+  streams-of-fits =
+      record {
+        size = λ room q. found-length D bits;
+        room = λ room q. let h = streams-of-answers room (sym q) .only-done refl in ltb-false room (D + D + D) (h .1 .1 .0);
+      }
+
+  pub streams-of-number : {out : List ℕ} {r : Written} {o : List ℕ} → StreamsFound D bits out r o
+      → Answers (r .number) (streamsOfConditions D bits (length out))
+  streams-of-number {out} a = streams-of-answers (length out) (a .number)
+
+  pub streams-of-confined : {out : List ℕ} {r : Written} {o : List ℕ} → StreamsFound D bits out r o → Confined out r o
+  streams-of-confined a = outputs.confined streams-of-fits (wrote-writes (streamsOfNumber D bits) _ (streamsAs D bits) a)
+
+  pub streams-of-alike : {out : List ℕ} {r : Written} {o other : List ℕ} {s : Written} {u : List ℕ} → length out ≡ length other
+      → StreamsFound D bits out r o → StreamsFound D bits other s u → Alike r o s u
+  streams-of-alike q a b =
+      outputs.alike streams-of-fits q (wrote-writes (streamsOfNumber D bits) _ (streamsAs D bits) a) (wrote-writes (streamsOfNumber D bits) _ (streamsAs D bits) b)
 
 -- keeping::put_record
 module _ (S : List ℕ) (t p : ℕ) (R : List ℕ) where

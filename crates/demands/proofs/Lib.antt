@@ -20,3 +20,4 @@ pub mod Sorted
 pub mod Found
 pub mod Kept
 pub mod Keeping
+pub mod Control

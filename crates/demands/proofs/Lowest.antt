@@ -14,13 +14,13 @@ use Rattle.demands.specs.Numbers.{rank, First, Answers, Applies, NoneBel
 
 -- a number that no request puts elsewhere
 abbrev pub Counted : ℕ → Type 0
-Counted n = (n ≡ 16 → ⊥) × (n ≡ 19 → ⊥) × (n ≡ 26 → ⊥)
+Counted n = (n ≡ 16 → ⊥) × (n ≡ 17 → ⊥) × (n ≡ 19 → ⊥) × (n ≡ 26 → ⊥)
 
 ranked : (n : ℕ) → Counted n → rank n ≡ 2 * n
 unfolding rank
-ranked n other = rw (ne-eqb n 16 (other .0), ne-eqb n 19 (other .1), ne-eqb n 26 (other .2))
+ranked n other = rw (ne-eqb n 16 (other .0), ne-eqb n 17 (other .1), ne-eqb n 19 (other .2), ne-eqb n 26 (other .3))
 
--- all numbers but 16, 19 and 26 keep their order, those of document 01 among them
+-- all numbers but 16, 17, 19 and 26 keep their order, those of document 01 among them
 module _ (a b : ℕ) (other : Counted a) (other' : Counted b) where
   pub ranks-rise : a < b → rank a < rank b
   ranks-rise h = omega (arith, ranked a other, ranked b other')
@@ -42,6 +42,11 @@ before-seven = (lit< tt, lit< tt)
 pub before-eleven : (rank 10 < rank 26) × (rank 26 < rank 11)
 unfolding rank
 before-eleven = (lit< tt, lit< tt)
+
+-- 17 "for a length outside 6 to 128, then 8": before all others
+pub before-all : rank 17 < rank 1
+unfolding rank
+before-all = lit< tt
 
 -- ---- lists
 

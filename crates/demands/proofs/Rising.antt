@@ -1,6 +1,6 @@
 -- "The lowest number that applies is answered", by every call of document 01 and those of CR 9, CR 4 and CR 8, 16 standing "between 7 and 8" as CR 3 has it
--- and 19 "before 7" as CR 8 has it, and by the calls that keep a shelf, 26 standing before 11: their lists rise by rank, so the first number whose condition
--- holds is the lowest.
+-- and 19 "before 7" as CR 8 has it, by the calls that keep a shelf, 26 standing before 11, and by those of CR 5, 17 standing before all others: their lists rise
+-- by rank, so the first number whose condition holds is the lowest.
 use mathlib.Core.Path.{_≡_, refl}
 use mathlib.Core.List.{List, _++_}
 use Prim.Native.Nat.{ℕ}
@@ -19,13 +19,14 @@ use Rattle.parity.specs.Promises.{codeConditions, BlockCoded}
 use Rattle.checking.specs.Promises.{checkConditions, WordChecked, sumsConditions, RowsSummed}
 use Rattle.checking.specs.declared.Verdict.{Verdict}
 use Rattle.matching.specs.Promises.{matchConditions, RateMatched}
+use Rattle.control.specs.Promises.{codeWordConditions, WordCoded, matchStreamsConditions, StreamsMatched, sendWordConditions, WordSent, streamsOfConditions, StreamsFound}
 use Rattle.coding.specs.Promises.{sendConditions, Sent, receiveConditions, Received}
 use Rattle.shelf.specs.Lookup.{lookupConditions, lookupNumber, lookupRecord}
 use Rattle.shelf.specs.Promises.{HostedSent, HostedReceived, HostedChecked}
 use Rattle.keeping.specs.Promises.{putConditions, RecordPut, removeConditions, RecordRemoved}
 use Rattle.demands.specs.Numbers.{rank, Lowest}
 use Rattle.demands.proofs.Lowest.{rising, lowest}
-use Rattle.demands.proofs.Demand1.{of-bits-number, of-octets-number, of-block-bits-number, sum-under-number, append-number, test-number, judge-number, plan-block-number, code-block-number, check-word-number, row-sums-number, rate-match-number, send-number, receive-number, lookup-number-number, hosted-send-number, hosted-receive-number, hosted-check-number, put-number, remove-number}
+use Rattle.demands.proofs.Demand1.{of-bits-number, of-octets-number, of-block-bits-number, sum-under-number, append-number, test-number, judge-number, plan-block-number, code-block-number, check-word-number, row-sums-number, rate-match-number, send-number, receive-number, lookup-number-number, hosted-send-number, hosted-receive-number, hosted-check-number, put-number, remove-number, code-word-number, match-streams-number, send-word-number, streams-of-number}
 
 pub of-bits-lowest : {w : ℕ} {bits : List ℕ} {r : Sum} → OfBits w bits r
     → Lowest (r .number) (bitsConditions w bits)
@@ -126,3 +127,23 @@ pub remove-lowest : (S : List ℕ) (t p : ℕ) {out : List ℕ} {r : Written} {o
     → Lowest (r .number) (removeConditions S t p (length out))
 unfolding rising rank
 remove-lowest S t p {out} a = lowest (removeConditions S t p (length out)) refl (remove-number S t p a)
+
+pub code-word-lowest : (c : List ℕ) {out : List ℕ} {r : Written} {o : List ℕ} → WordCoded c out r o
+    → Lowest (r .number) (codeWordConditions c (length out))
+unfolding rising rank
+code-word-lowest c {out} a = lowest (codeWordConditions c (length out)) refl (code-word-number c a)
+
+pub match-streams-lowest : (D : ℕ) (S : List ℕ) (e : ℕ) {out : List ℕ} {r : Written} {o : List ℕ} → StreamsMatched D S e out r o
+    → Lowest (r .number) (matchStreamsConditions D S e (length out))
+unfolding rising rank
+match-streams-lowest D S e {out} a = lowest (matchStreamsConditions D S e (length out)) refl (match-streams-number D S e a)
+
+pub send-word-lowest : (c : List ℕ) (e : ℕ) {out : List ℕ} {r : Written} {o : List ℕ} → WordSent c e out r o
+    → Lowest (r .number) (sendWordConditions c e (length out))
+unfolding rising rank
+send-word-lowest c e {out} a = lowest (sendWordConditions c e (length out)) refl (send-word-number c e a)
+
+pub streams-of-lowest : (D : ℕ) (bits : List ℕ) {out : List ℕ} {r : Written} {o : List ℕ} → StreamsFound D bits out r o
+    → Lowest (r .number) (streamsOfConditions D bits (length out))
+unfolding rising rank
+streams-of-lowest D bits {out} a = lowest (streamsOfConditions D bits (length out)) refl (streams-of-number D bits a)

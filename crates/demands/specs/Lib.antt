@@ -4,3 +4,4 @@ pub mod Steps
 pub mod Worked
 pub mod Fifteen
 pub mod EditionOne
+pub mod Taps

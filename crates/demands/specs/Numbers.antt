@@ -27,11 +27,11 @@ pub record Answers (number : ℕ) (l : List (ℕ × Bool)) : Type 0 where
 
 -- ---- the lists rise by rank, so that there before means below
 
--- "The lowest number that applies is answered" (document 01), "16, between 7 and 8" (document 02, CR 3), "19, before 7" (CR 8) and 26, a number of the house,
--- before 11: the rank of 16 lies between those of 7 and 8, that of 19 between those of 6 and 7, that of 26 between those of 10 and 11, and all other numbers are
--- ranked as they are counted
+-- "The lowest number that applies is answered" (document 01), "16, between 7 and 8" (document 02, CR 3), "19, before 7" (CR 8), "17 .., then 8" (CR 5) and 26, a number
+-- of the house, before 11: the rank of 16 lies between those of 7 and 8, that of 19 between those of 6 and 7, that of 26 between those of 10 and 11, that of 17 before
+-- all others, and all other numbers are ranked as they are counted
 unfoldable pub rank : ℕ → ℕ
-rank n = cond (eqb n 16) 15 (cond (eqb n 19) 13 (cond (eqb n 26) 21 (2 * n)))
+rank n = cond (eqb n 16) 15 (cond (eqb n 17) 1 (cond (eqb n 19) 13 (cond (eqb n 26) 21 (2 * n))))
 
 -- n is one of the numbers, and its condition holds
 unfoldable pub Applies : ℕ → List (ℕ × Bool) → Type 0

@@ -1,8 +1,8 @@
--- The cases marked P of document 01, "Small profile and worked numbers", and those of CR 1, in one table, in a second cases of our own for CR 3, and in a third
--- those of CR 8: what the definitions compute, and what is due.
+-- The cases marked P of document 01, "Small profile and worked numbers", and those of CR 1, in one table, in a second cases of our own for CR 3, in a third those
+-- of CR 8, and in a fourth those of CR 5: what the definitions compute, and what is due.
 use mathlib.Core.Bool.{cond}
 use mathlib.Core.List.{List, [], _∷_, _++_}
-use Prim.Native.Nat.{ℕ, _-_}
+use Prim.Native.Nat.{ℕ, _+_, _-_}
 use lib.ListN.{take, replicate}
 use Rattle.bits.specs.Bits.{unpacked}
 use Rattle.bits.specs.Ranges.{listBelow}
@@ -14,6 +14,8 @@ use Rattle.cutting.specs.Plan.{blockBits, sumBits, blocks, tooManyBlocks, ownBi
 use Rattle.cutting.specs.Transport.{transport}
 use Rattle.parity.specs.Coded.{coded}
 use Rattle.matching.specs.Matching.{matchedFrom}
+use Rattle.control.specs.Register.{streams}
+use Rattle.control.specs.Interleaver.{sent}
 use Rattle.coding.specs.Allocation.{share}
 use Rattle.coding.specs.Joining.{radioBits}
 
@@ -227,6 +229,25 @@ editions =
     -- noughts are sent as noughts in both, so that nothing is said across two
     ∷ record { computed = twentySent (transport (0x00 ∷ 0x00 ∷ 0x00 ∷ [])) 1; due = 48 ∷ 2 ∷ 70 ∷ 68 ∷ replicate 138 0 }
     ∷ record { computed = twentySent (transport (0x00 ∷ 0x00 ∷ 0x00 ∷ [])) 2; due = 48 ∷ 3 ∷ 46 ∷ 46 ∷ 46 ∷ replicate 138 0 }
+    ∷ []
+
+-- ---- control words (document 02, CR 5)
+
+-- 101100
+abbrev pub controlWord : List ℕ
+controlWord = 1 ∷ 0 ∷ 1 ∷ 1 ∷ 0 ∷ 0 ∷ []
+
+unfoldable pub controlWords : List Case
+controlWords =
+    -- the three streams of 100000, of 000001 and of 101100
+    record { computed = streams (1 ∷ 0 ∷ 0 ∷ 0 ∷ 0 ∷ 0 ∷ []); due = 0 ∷ 0 ∷ 1 ∷ 1 ∷ 0 ∷ 1 ∷ 0 ∷ 1 ∷ 1 ∷ 1 ∷ 0 ∷ 0 ∷ 0 ∷ 1 ∷ 1 ∷ 0 ∷ 1 ∷ 0 ∷ [] }
+    ∷ record { computed = streams (0 ∷ 0 ∷ 0 ∷ 0 ∷ 0 ∷ 1 ∷ []); due = 0 ∷ 1 ∷ 1 ∷ 0 ∷ 1 ∷ 0 ∷ 1 ∷ 1 ∷ 1 ∷ 0 ∷ 0 ∷ 0 ∷ 1 ∷ 1 ∷ 0 ∷ 1 ∷ 0 ∷ 0 ∷ [] }
+    ∷ record { computed = streams controlWord; due = 1 ∷ 1 ∷ 0 ∷ 1 ∷ 1 ∷ 1 ∷ 1 ∷ 1 ∷ 1 ∷ 0 ∷ 0 ∷ 0 ∷ 1 ∷ 0 ∷ 1 ∷ 1 ∷ 1 ∷ 1 ∷ [] }
+    -- 101100 sent as 18 bits, and as 20, packed into octets
+    ∷ record { computed = sent 6 (streams controlWord) 18; due = take 18 (unpacked (0xED ∷ 0x6B ∷ 0xC0 ∷ [])) }
+    ∷ record { computed = sent 6 (streams controlWord) 20; due = take 20 (unpacked (0xED ∷ 0x6B ∷ 0xF0 ∷ [])) }
+    -- of 40 bits the places 9, 25, 17, 1 and 33 of the first stream are sent first: each place holds its own number and three, so that none reads as a mark
+    ∷ record { computed = sent 40 (listBelow 120 (λ i. i + 3)) 5; due = (9 + 3) ∷ (25 + 3) ∷ (17 + 3) ∷ (1 + 3) ∷ (33 + 3) ∷ [] }
     ∷ []
 
 -- ---- the columns of the tables

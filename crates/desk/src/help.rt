@@ -47,6 +47,10 @@ Coding, for a tenant and a profile number:
   kuambyte receive PRIVATE PUBLIC TENANT PROFILE OCTETS LAYERS ORDER [--rv N] [--edition N] [--plain] [--text] < bits > block
   kuambyte check PRIVATE PUBLIC TENANT PROFILE Z [--plain] [--text] < word   write whether a word checks, or the odd rows
 
+Control words:
+  kuambyte control send BITS [--text] < word > bits           write the bits that a control word is sent as
+  kuambyte control receive LENGTH [--text] < bits > streams   write the three streams that were sent as bits
+
 Shelves and records:
   kuambyte shelf private|public FILE              write a table of what is on a shelf, or the first rule that it breaks
   kuambyte show RECORD [Z] [--svg]                write the tables of a record as grids, or one as a picture

@@ -57,6 +57,7 @@ pack
 unpack
 put
 remove
+control
 ";
     list::find(names, &word[..n])
 }
@@ -83,6 +84,7 @@ fn command(line: usize, place: usize, words: Words) -> i32 {
         13 => unpack::run(words),
         14 => put::run(words),
         15 => remove::run(words),
+        16 => signalling::run(words),
         _ => help::unknown(place),
     }
 }

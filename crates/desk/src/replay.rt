@@ -40,6 +40,10 @@ Reads requests, one to a line, and writes an answer to each. Requests, and what 
   hcheck SHELVES TENANT PROFILE ..   as check, with the record that the tenant is given
   put PRIVATE TENANT PROFILE RECORD OUTLEN   the private shelf with this record for the tenant and the profile number
   remove PRIVATE TENANT PROFILE OUTLEN       the private shelf without the record of the tenant and the profile number
+  tbenc BITS OUTLEN                  the three streams that a control word is coded to, one after the other
+  tbrm D STREAMS E OUTLEN            the bits that are sent of three streams of D bits
+  tbsend BITS E OUTLEN               the bits that are sent of a control word
+  tbback D BITS OUTLEN               the three streams of D bits that were sent as these bits
 
 SHELVES are two words, PRIVATE and PUBLIC; behind PROFILE the words of send, recv and check behind RECORD.
 check, recv, hrecv and hcheck may end in by=quick or by=plain: which checker is asked, quick where nothing is said.

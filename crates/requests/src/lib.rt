@@ -24,3 +24,7 @@ mod recv;
 mod remove;
 mod send;
 mod sums;
+mod tbback;
+mod tbenc;
+mod tbrm;
+mod tbsend;

@@ -20,6 +20,10 @@ use crate::recv;
 use crate::remove;
 use crate::send;
 use crate::sums;
+use crate::tbback;
+use crate::tbenc;
+use crate::tbrm;
+use crate::tbsend;
 use text::faults::Fault;
 use text::forms;
 use text::forms::Given;
@@ -49,7 +53,7 @@ pub fn answer(request: &[u8], records: &mut [u8], bits: &mut [u8], lent: &mut [u
 }
 
 // Behind the last kind.
-const NO_KIND: usize = 20;
+const NO_KIND: usize = 24;
 
 fn kind_of(name: &[u8]) -> usize {
     if same(name, b"crc") {
@@ -112,6 +116,18 @@ fn kind_of(name: &[u8]) -> usize {
     if same(name, b"remove") {
         return 19;
     }
+    if same(name, b"tbenc") {
+        return 20;
+    }
+    if same(name, b"tbrm") {
+        return 21;
+    }
+    if same(name, b"tbsend") {
+        return 22;
+    }
+    if same(name, b"tbback") {
+        return 23;
+    }
     NO_KIND
 }
 
@@ -157,6 +173,10 @@ fn put_form(kind: usize, form: &mut [u8]) -> usize
         ),
         18 => octets::put(b"put PRIVATE TENANT PROFILE ADDED OUTLEN", form, 0),
         19 => octets::put(b"remove PRIVATE TENANT PROFILE OUTLEN", form, 0),
+        20 => octets::put(b"tbenc BITS OUTLEN", form, 0),
+        21 => octets::put(b"tbrm D STREAMS E OUTLEN", form, 0),
+        22 => octets::put(b"tbsend BITS E OUTLEN", form, 0),
+        23 => octets::put(b"tbback D BITS OUTLEN", form, 0),
         _ => 0,
     }
 }
@@ -234,6 +254,10 @@ fn of_kind<'a>(
         17 => hcheck::answer(numbers, first, second, bits),
         18 => put::answer(numbers, first, second, lent),
         19 => remove::answer(numbers, first, lent),
+        20 => tbenc::answer(bits, lent),
+        21 => tbrm::answer(numbers, bits, lent),
+        22 => tbsend::answer(numbers, bits, lent),
+        23 => tbback::answer(numbers, bits, lent),
         _ => Answer::Error(Fault::Request),
     }
 }

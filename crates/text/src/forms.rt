@@ -23,7 +23,7 @@ pub struct Given {
     pub record: usize,
     // Octets that PUBLIC or ADDED fills of the second half.
     pub public: usize,
-    // Octets that BLOCK, BITS or PLACES fills of the store of bits.
+    // Octets that BLOCK, BITS, PLACES or STREAMS fills of the store of bits.
     pub bits: usize,
     // Octets that OUTLEN lends.
     pub lent: usize,
@@ -230,6 +230,9 @@ fn kind_of(name: &[u8]) -> Kind {
         return Kind::Bits;
     }
     if same(name, b"PLACES") {
+        return Kind::Bits;
+    }
+    if same(name, b"STREAMS") {
         return Kind::Bits;
     }
     Kind::Other

@@ -1,6 +1,7 @@
 //! Writes requests for comparing two implementations: good, refused, broken and very long ones.
 
 mod broken;
+pub mod control;
 pub mod crc;
 pub mod crc24b;
 pub mod crcoct;
@@ -193,6 +194,10 @@ mod tests {
             ("hcheck", &[0, 1, 2, 3, 4, 5, 6, 8, 12]),
             ("put", &[0, 1, 2, 5, 6, 11, 26]),
             ("remove", &[0, 1, 2, 4, 11]),
+            ("tbenc", &[0, 11, 12, 17]),
+            ("tbrm", &[0, 8, 11, 12, 17]),
+            ("tbsend", &[0, 8, 11, 12, 17]),
+            ("tbback", &[0, 8, 11, 12, 13, 14, 17]),
         ] {
             let (numbers, others) = numbers_of(kind);
             let expected = expected.iter().copied().collect();

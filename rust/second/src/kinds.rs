@@ -21,6 +21,10 @@ mod recv;
 mod remove;
 mod send;
 mod sums;
+mod tbback;
+mod tbenc;
+mod tbrm;
+mod tbsend;
 
 use crate::errors::Fault;
 use crate::form::{Form, Given};
@@ -47,6 +51,10 @@ pub const KINDS: &[Kind] = &[
     hcheck::KIND,
     put::KIND,
     remove::KIND,
+    tbenc::KIND,
+    tbrm::KIND,
+    tbsend::KIND,
+    tbback::KIND,
 ];
 
 /// One kind of request.

@@ -4,6 +4,7 @@
 mod allocation;
 mod answer;
 mod checksum;
+mod control;
 mod draft;
 mod edition;
 mod errors;

@@ -42,16 +42,20 @@ pub const OUTPUT: Number = 11;
 /// An octet over 1 where single bits are taken, over 2 where filler marks are taken too.
 pub const NO_BIT: Number = 12;
 
-/// Some block's share has not room for all its coded places less its filler.
+/// Some block's share has not room for all its coded places less its filler; or there are fewer bits than the
+/// three streams of a control word have.
 pub const SHORT_SHARE: Number = 13;
 
-/// No block is sent as these bits.
+/// No block is sent as these bits, or no three streams are.
 pub const UNSENT: Number = 14;
 
 // 15 is unused: every block has parity bits with which it checks (document 02, CR 6).
 
 /// The redundancy version is over 3, or against the type. It is tested between 7 and 8.
 pub const VERSION: Number = 16;
+
+/// The control word, or each of its streams, has not 6 to 128 bits. It is tested before 8.
+pub const CONTROL_LENGTH: Number = 17;
 
 /// The edition is neither 1 nor 2. It is tested before 7.
 pub const EDITION: Number = 19;

@@ -200,6 +200,52 @@ fn requests_about_shelves_are_read() {
     );
 }
 
+#[test]
+fn requests_about_control_words_are_read() {
+    let bits = || octets(&[0, 1, 9]);
+    assert_eq!(
+        request(b"tbenc 019 140000"),
+        read("tbenc", &[bits(), number(140_000)])
+    );
+    assert_eq!(
+        request(b"tbrm 18446744073709551615 019 65537 7"),
+        read(
+            "tbrm",
+            &[number(u64::MAX), bits(), number(65_537), number(7)]
+        )
+    );
+    assert_eq!(
+        request(b"tbsend x:0001ff 007 8"),
+        read("tbsend", &[octets(&[0, 1, 255]), number(7), number(8)])
+    );
+    assert_eq!(
+        request(b"tbback 6 - 18"),
+        read("tbback", &[number(6), octets(&[]), number(18)])
+    );
+}
+
+#[test]
+fn words_about_control_words_are_looked_at_from_left_to_right() {
+    for (line, error) in [
+        (&b"tbenc q 140001"[..], Fault::Bits),
+        (b"tbenc 0 140001", Fault::Long),
+        (b"tbenc 0 q", Fault::Number),
+        (b"tbrm q q q 140001", Fault::Number),
+        (b"tbrm 129 q q 140001", Fault::Bits),
+        (b"tbrm 129 0 q 140001", Fault::Number),
+        (b"tbrm 129 0 0 140001", Fault::Long),
+        (b"tbsend q q 140001", Fault::Bits),
+        (b"tbsend 0 18446744073709551616 140001", Fault::Number),
+        (b"tbsend 0 18446744073709551615 140001", Fault::Long),
+        (b"tbback 18446744073709551616 q q", Fault::Number),
+        (b"tbback 18446744073709551615 x:0 q", Fault::Bits),
+        (b"tbback 6 0 q", Fault::Number),
+    ] {
+        let text = String::from_utf8_lossy(line);
+        assert_eq!(request(line), Err(error), "{text}");
+    }
+}
+
 /// The kinds that may ask for a checker.
 const CHECKING: [&str; 4] = ["check", "recv", "hrecv", "hcheck"];
 
@@ -213,7 +259,7 @@ fn any_words(name: &str) -> Vec<String> {
 #[test]
 fn no_other_request_has_an_optional_word() {
     let has_none = |kind: &&Kind| kind.form.options.is_empty();
-    assert_eq!(KINDS.iter().filter(has_none).count(), 12);
+    assert_eq!(KINDS.iter().filter(has_none).count(), 16);
     for kind in KINDS.iter().filter(has_none) {
         let line = any_words(kind.name).join(" ");
         let read = |ending: &str| request([&line, ending].concat().as_bytes());
@@ -490,6 +536,10 @@ fn every_request_has_its_count_of_words() {
         ("hcheck", 6),
         ("put", 5),
         ("remove", 4),
+        ("tbenc", 2),
+        ("tbrm", 4),
+        ("tbsend", 3),
+        ("tbback", 3),
     ] {
         for words in (0..12).filter(|&words| words != count) {
             let line = [name, &" 0".repeat(words)].concat();

@@ -1,0 +1,9 @@
+pub mod Ordering
+pub mod Collecting
+pub mod Loops
+pub mod Backwards
+pub mod Sending
+pub mod Registers
+pub mod Taps
+pub mod Answers
+pub mod Agreement
