@@ -169,6 +169,42 @@ receives! {
     limit_receive limit::receive::receive;
 }
 
+macro_rules! control_words {
+    ($($code:ident $match_streams:ident $send:ident $streams_of:ident
+       $coded:path, $matched:path, $sent:path, $back:path;)*) => { $(
+        #[no_mangle]
+        pub unsafe extern "C" fn $code(word: *const u8, count: usize, out: *mut u8, room: usize) -> u32 {
+            number($coded(read(word, count), write(out, room)))
+        }
+
+        #[no_mangle]
+        pub unsafe extern "C" fn $match_streams(
+            d: usize, streams: *const u8, count: usize, e: usize, out: *mut u8, room: usize,
+        ) -> u32 {
+            number($matched(d, read(streams, count), e, write(out, room)))
+        }
+
+        #[no_mangle]
+        pub unsafe extern "C" fn $send(word: *const u8, count: usize, e: usize, out: *mut u8, room: usize) -> u32 {
+            number($sent(read(word, count), e, write(out, room)))
+        }
+
+        #[no_mangle]
+        pub unsafe extern "C" fn $streams_of(
+            d: usize, bits: *const u8, count: usize, out: *mut u8, room: usize,
+        ) -> u32 {
+            number($back(d, read(bits, count), write(out, room)))
+        }
+    )* };
+}
+
+control_words! {
+    plain_code_word plain_match_streams plain_send_word plain_streams_of
+        plain::control::code_word, plain::control::match_streams, plain::control::send_word, plain::control::streams_of;
+    limit_code_word limit_match_streams limit_send_word limit_streams_of
+        limit::control::code_word, limit::control::match_streams, limit::control::send_word, limit::control::streams_of;
+}
+
 macro_rules! hosted {
     ($($lookup:ident $send:ident $receive:ident $found:path, $sent:path, $received:path;)*) => { $(
         #[no_mangle]

@@ -14,11 +14,16 @@
     receive_call P##_receive;                                                                                          \
     lookup_call P##_lookup;                                                                                            \
     hosted_send_call P##_hosted_send;                                                                                  \
-    hosted_receive_call P##_hosted_receive;
+    hosted_receive_call P##_hosted_receive;                                                                            \
+    code_word_call P##_code_word;                                                                                      \
+    match_streams_call P##_match_streams;                                                                              \
+    send_word_call P##_send_word;                                                                                      \
+    streams_of_call P##_streams_of;
 #define SIDE(NAME, P)                                                                                                  \
-    { NAME,        P##_crc,    P##_crc_of_bits, P##_crc_of_block, P##_judge,                                           \
-      P##_plan,    P##_match,  P##_code,        P##_check,        P##_send,                                            \
-      P##_receive, P##_lookup, P##_hosted_send, P##_hosted_receive }
+    { NAME,              P##_crc,       P##_crc_of_bits, P##_crc_of_block,   P##_judge,                                \
+      P##_plan,          P##_match,     P##_code,        P##_check,          P##_send,                                 \
+      P##_receive,       P##_lookup,    P##_hosted_send, P##_hosted_receive, P##_code_word,                            \
+      P##_match_streams, P##_send_word, P##_streams_of }
 
 CALLS(product)
 CALLS(plain)
@@ -68,7 +73,11 @@ int has(const struct side *side, const struct job *job) {
     case RECEIVE: return side->receive != 0;
     case LOOKUP: return side->lookup != 0;
     case HOSTED_SEND: return side->hosted_send != 0;
-    default: return side->hosted_receive != 0;
+    case HOSTED_RECEIVE: return side->hosted_receive != 0;
+    case CODE_WORD: return side->code_word != 0;
+    case MATCH_STREAMS: return side->match_streams != 0;
+    case SEND_WORD: return side->send_word != 0;
+    default: return side->streams_of != 0;
     }
 }
 
@@ -98,6 +107,10 @@ uint64_t run(const struct side *s, const struct job *j) {
     case RECEIVE:
         return s->receive(j->record, j->record_length, j->a, j->nl, j->qm, j->rv, j->edition, j->input, j->input_length, output,
                           j->room);
+    case CODE_WORD: return s->code_word(j->input, j->input_length, output, j->room);
+    case MATCH_STREAMS: return s->match_streams(j->z, j->input, j->input_length, j->g, output, j->room);
+    case SEND_WORD: return s->send_word(j->input, j->input_length, j->g, output, j->room);
+    case STREAMS_OF: return s->streams_of(j->z, j->input, j->input_length, output, j->room);
     default: return run_hosted(s, j);
     }
 }

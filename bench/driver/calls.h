@@ -19,6 +19,10 @@ typedef uint32_t send_call(in record, size_t length, in block, size_t octets, si
                            size_t g, u8 *out, size_t room);
 typedef uint32_t receive_call(in record, size_t length, size_t a, size_t nl, size_t qm, size_t rv, size_t edition, in bits,
                               size_t g, u8 *out, size_t room);
+typedef uint32_t code_word_call(in word, size_t count, u8 *out, size_t room);
+typedef uint32_t match_streams_call(size_t d, in streams, size_t count, size_t e, u8 *out, size_t room);
+typedef uint32_t send_word_call(in word, size_t count, size_t e, u8 *out, size_t room);
+typedef uint32_t streams_of_call(size_t d, in bits, size_t count, u8 *out, size_t room);
 typedef size_t lookup_call(in private, size_t own, in public, size_t others, uint16_t tenant, uint16_t profile);
 typedef uint32_t hosted_send_call(in private, size_t own, in public, size_t others, uint16_t tenant, uint16_t profile,
                                   in block, size_t octets, size_t nl, size_t qm, size_t rv, size_t edition, size_t g, u8 *out,
@@ -42,6 +46,10 @@ struct side {
     lookup_call *lookup;
     hosted_send_call *hosted_send;
     hosted_receive_call *hosted_receive;
+    code_word_call *code_word;
+    match_streams_call *match_streams;
+    send_word_call *send_word;
+    streams_of_call *streams_of;
 };
 
 /* In the order of the table's columns. */
@@ -52,7 +60,8 @@ extern const struct side sides[SIDES];
 enum { BY_PLAIN, BY_QUICK, CHECKERS };
 extern const struct side checkers[CHECKERS];
 
-enum kind { CRC, CRC_OF_BITS, CRC_OF_BLOCK, JUDGE, PLAN, MATCH, CODE, CHECK, SEND, RECEIVE, LOOKUP, HOSTED_SEND, HOSTED_RECEIVE };
+enum kind { CRC, CRC_OF_BITS, CRC_OF_BLOCK, JUDGE, PLAN, MATCH, CODE, CHECK, SEND, RECEIVE, LOOKUP, HOSTED_SEND, HOSTED_RECEIVE,
+            CODE_WORD, MATCH_STREAMS, SEND_WORD, STREAMS_OF };
 
 /* Inputs of a job that take turns where it is timed: a branch predictor learns one block by heart, and no user sends one block only. */
 enum { VARIANTS = 8 };
@@ -65,8 +74,8 @@ struct job {
     in private, public;
     size_t private_length, public_length;
     uint16_t tenant, profile;
-    size_t z; /* of a checksum: its width; of a plan: the octets; of a matching: the type */
-    size_t nl, qm, rv, edition, g, a;
+    size_t z; /* of a checksum: its width; of a plan: the octets; of a matching: the type; of streams: D */
+    size_t nl, qm, rv, edition, g, a; /* g of a control word or of streams: E */
     u8 *input; /* the first of the inputs */
     u8 *inputs[VARIANTS];
     size_t input_length;
@@ -97,8 +106,11 @@ enum { NUMBERS = 100 };
 void print_seen(const long seen[NUMBERS]);
 
 int same(const struct job *job);
+/* The product's answer on a job of any input, a number. It is counted, and so is a job on which the sides differ. */
+uint64_t answered(const struct job *job, long seen[NUMBERS], long *differ);
 void compare_broken(long count);
 void compare_shapes(long count);
+void compare_control_words(long count);
 void compare_checkers(void);
 void print_times(int rounds, const char *only);
 /* For a program to read, a line for each side: job, side, nanoseconds, and what the product's time is over them. */

@@ -220,6 +220,39 @@ static void add_edition_2(void) {
     add_sent("56 200 exact ed2", record, 200, least_g(record, 2, 200), 0, 2);
 }
 
+static struct job *add_control(enum kind kind, const char *what, size_t d, size_t e) {
+    char name[48];
+    snprintf(name, sizeof name, "control %s %zu %zu", what, d, e);
+    struct job *job = add(kind, name);
+    job->z = d;
+    job->g = e;
+    return job;
+}
+
+/* A word of D bits is sent as E. */
+static struct job *add_sent_word(size_t d, size_t e) {
+    struct job *job = add_control(SEND_WORD, "send", d, e);
+    give_input(job, d, 1);
+    return job;
+}
+
+/* The streams are taken back from what was sent. */
+static void add_back(const struct job *send) {
+    give_output_of(add_control(STREAMS_OF, "back", send->z, send->g), *send, send->g);
+}
+
+/* Control words: the shortest, one of a usual length and the longest, into just the room that they need and over and over. */
+static void add_control_words(void) {
+    give_input(add(CODE_WORD, "control code 40"), 40, 1);
+    give_input(add(CODE_WORD, "control code 128"), 128, 1);
+    give_input(add_control(MATCH_STREAMS, "match", 40, 120), 120, 1);
+    add_sent_word(6, 18);
+    add_back(add_sent_word(40, 120));
+    add_sent_word(40, 1600);
+    add_back(add_sent_word(128, 384));
+    add_back(add_sent_word(128, 5120));
+}
+
 static void ask_both(const char *name) {
     for (int k = 0; k < job_count; k++)
         if (!strcmp(jobs[k].name, name)) {
@@ -263,5 +296,6 @@ void make_jobs(const char *shelves) {
     add_shorter_checksums();
     add_type_2();
     add_edition_2();
+    add_control_words();
     ask_both_checkers();
 }

@@ -16,6 +16,7 @@ int main(int count, char **words) {
     if (!strcmp(command, "same") && first) {
         compare_broken(atol(first));
         compare_shapes(atol(first) / 20);
+        compare_control_words(atol(first) / 20);
         compare_checkers();
     } else if (!strcmp(command, "time") && first)
         print_times(atoi(first), second);

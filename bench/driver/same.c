@@ -33,6 +33,13 @@ static int agree(const struct side *all, int count, const struct job *job) {
 
 int same(const struct job *job) { return agree(sides, SIDES, job); }
 
+uint64_t answered(const struct job *job, long seen[NUMBERS], long *differ) {
+    *differ += !same(job);
+    uint64_t number = run(&sides[PRODUCT], job);
+    seen[number]++;
+    return number;
+}
+
 enum { LONGER = 8 };
 
 /* A copy with room for a longer input. */

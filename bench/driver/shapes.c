@@ -7,14 +7,6 @@
 static u8 block[2048], bits[OUTPUT], spoilt[OUTPUT];
 static long sums_spoilt;
 
-/* The number of a job. It is counted, and so is a job on which the sides differ. */
-static uint64_t answered(const struct job *job, long seen[NUMBERS], long *differ) {
-    *differ += !same(job);
-    uint64_t number = run(&sides[PRODUCT], job);
-    seen[number]++;
-    return number;
-}
-
 /* A block to be sent, mostly in one of the two editions, mostly into enough room, mostly from a start of the type. */
 static struct job any_block(struct record record) {
     size_t octets = 1 + drawn() % (drawn() % 4 ? 100 : 2048), type = number_at(record.octets, 6);

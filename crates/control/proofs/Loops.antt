@@ -1,9 +1,8 @@
 -- The loops over the order: one turn of each, and what they make.
 use mathlib.Core.Path.{_≡_, refl, sym, ap, ap₂, subst, _∙_}
 use mathlib.Core.List.{List, [], _∷_, _++_}
-use Prim.Native.Nat.{ℕ, _+_, _-_, _*_, _≤_, _<_}
+use Prim.Native.Nat.{ℕ, zero, suc, _+_, _-_, _*_, _%_, _≤_, _<_}
 use native.Mathlib.Nat.{add-mul, mul-comm}
-use native.Mathlib.Numerals.{add-one}
 use native.Mathlib.Omega.{arith}
 use lib.Arith.{digits-lt}
 use lib.ListN.{length, getD, take, drop, set, length-append, length-set, List·getD-append}
@@ -12,76 +11,102 @@ use Rattle.bits.specs.Ranges.{listBelow}
 use Rattle.bits.proofs.Listed.{length-list, written}
 use Rattle.bits.proofs.Ranges.{last-or, below-or}
 use Rattle.control.specs.Interleaver.{rows, dummies, columns, matrixPlace}
-use Rattle.control.specs.steps.Order.{orderTo, order, place, spot, PutPlace, Ordered, Placed, Three, Threes, collected, Scattered}
-use Rattle.control.proofs.Ordering.{rows-of, read-at, order-skip, order-put, order-length, place-lt, place-once, spot-first, spot-second, spot-third}
+use Rattle.control.specs.steps.Order.{orderTo, order, place, before, spot, Three, Threes, collected, Scattered}
+use Rattle.control.proofs.Ordering.{rows-of, read-at, column-lt, order-skip, order-put, order-length, place-lt, place-once, spot-first, spot-second, spot-third}
 
--- ---- the order of one stream
+-- ---- the order, column by column
 
-pub ordered-none : (D : ℕ) (t : List ℕ) → length t ≡ 128 → Ordered D (0 * rows D) 0 t
-unfolding orderTo
-ordered-none D t e =
-    let none : 0 * rows D ≡ 0 = omega arith in
-    rw none record { len = e; size = refl; most = omega arith; at = λ j h. absurd (omega arith) }
+-- what is read stays where it stands
+order-more : (D k m i : ℕ) → i < length (orderTo D k) → (length (orderTo D k) ≤ length (orderTo D (k + m))) × (getD (orderTo D (k + m)) i 0 ≡ getD (orderTo D k) i 0)
+order-more D k zero i h = let at : k + 0 ≡ k = omega arith in rw at (omega arith, refl)
+order-more D k (suc m) i h =
+    let on : k + suc m ≡ suc (k + m) = omega arith in
+    let e = order-more D k m i h in
+    below-or (matrixPlace (rows D) (k + m)) (dummies D)
+    (λ l. rw (on, order-skip D (k + m) l) e)
+    (λ l. rw (on, order-put D (k + m) l) (
+      omega (arith, e .0, length-append (orderTo D (k + m)) ((matrixPlace (rows D) (k + m) - dummies D) ∷ [])),
+      List·getD-append (orderTo D (k + m)) _ 0 i (omega (arith, e .0)) ∙ e .1,
+    ))
 
-ordered-next : (D k n r p : ℕ) (t t' : List ℕ) → k < 128 → p ≡ matrixPlace (rows D) k → Ordered D k n t → PutPlace p (dummies D) n t r t' → Ordered D (k + 1) r t'
-ordered-next D k n r p t t' h e o put =
-    below-or p (dummies D)
-    (λ l.
-    let same : orderTo D (k + 1) ≡ orderTo D k = ap (orderTo D) (add-one k) ∙ order-skip D k (omega arith) in
-    rw (put .skipped l .0, put .skipped l .1)
-    record { len = o .len; size = ap length same ∙ o .size; most = omega (arith, o .most); at = λ j m. o .at j m ∙ ap (λ (x : List ℕ). getD x j 0) (sym same) })
-    (λ l.
-    let x = p - dummies D in
-    let more : orderTo D (k + 1) ≡ orderTo D k ++ (x ∷ []) =
-    ap (orderTo D) (add-one k) ∙ order-put D k (omega arith) ∙ ap (λ (y : ℕ). orderTo D k ++ ((y - dummies D) ∷ [])) (sym e) in
-    let size = o .size in
-    rw (put .put l .0, put .put l .1)
-    record {
-      len = length-set t n x ∙ o .len;
-      size = ap length more ∙ length-append (orderTo D k) (x ∷ []) ∙ omega arith;
-      most = omega (arith, o .most);
-      at = λ j m.
-          last-or j n (omega arith)
-          (λ i. getD-set-other t n j x 0 (λ q. omega arith) ∙ o .at j i ∙ sym (List·getD-append (orderTo D k) (x ∷ []) 0 j (omega arith)) ∙ ap (λ (y : List ℕ). getD y j 0) (sym more))
-          (λ q. ap (λ (i : ℕ). getD (set t n x) i 0) q ∙ getD-set-same t n x 0 (omega (arith, o .len, o .most))
-          ∙ sym (getD-append-seam (orderTo D k) x [] 0) ∙ ap₂ (λ (y : List ℕ) (i : ℕ). getD y i 0) (sym more) (size ∙ sym q));
-    })
+-- so many rows of the j-th column, which is c, are read, with n places up to there, and p is the place of the stream in the next
+pub record Column (D j c p n : ℕ) : Type 0 where
+  pub row : ℕ
+  pub most : row ≤ rows D
+  pub is : row * 32 + c ≡ p + dummies D
+  pub size : length (orderTo D (j * rows D + row)) ≡ n
+
+pub before-none : (D : ℕ) → 0 ≡ before D 0
+unfolding before orderTo
+before-none D = let none : 0 * rows D ≡ 0 = omega arith in rw none
 
 module _ (D : ℕ) (some : 0 < D) (most : D ≤ 128) where
-  pub ordered-first : (j n : ℕ) (t : List ℕ) → Ordered D (j * rows D) n t → Ordered D (j * rows D + 0) n t
-  ordered-first j n t o = let at : j * rows D + 0 ≡ j * rows D = omega arith in rw at o
+  pub before-all : (j : ℕ) → j ≡ 32 → before D j ≡ D
+  unfolding before order
+  before-all j e = ap (λ (x : ℕ). length (orderTo D x)) (ap (λ (x : ℕ). x * rows D) e ∙ mul-comm 32 (rows D)) ∙ order-length D most
 
-  -- a place of the matrix by its column j and its row i
-  place-at : (j i : ℕ) → j < 32 → i < rows D → j * rows D + i < 128
-  place-at j i h l =
-      let R = rows-of D some most in
-      let whole : rows D * 32 ≤ 128 = omega (arith, R .most) in
-      omega (arith, digits-lt h l, mul-comm 32 (rows D))
+  module _ (j c : ℕ) (h : j < 32) (e : c ≡ getD columns j 0) where
+    pub column-low : c < 32
+    column-low = rw e (column-lt j h)
 
-  pub ordered-room : (j i n : ℕ) (t : List ℕ) → j < 32 → i < rows D → Ordered D (j * rows D + i) n t → n < 128
-  ordered-room j i n t h l o = omega (arith, o .most, place-at j i h l)
+    pub column-first : (n p : ℕ) → n ≡ before D j → p ≡ (c + D) % 32 → Column D j c p n
+    unfolding before
+    column-first n p o q =
+        let R = rows-of D some most in
+        let start : j * rows D + 0 ≡ j * rows D = omega arith in
+        let first : matrixPlace (rows D) (j * rows D) ≡ c = ap (matrixPlace (rows D)) (sym start) ∙ read-at (rows D) 0 j (R .some) ∙ omega (arith, e) in
+        below-or c (dummies D)
+        (λ l.
+        let next : j * rows D + 1 ≡ suc (j * rows D) = omega arith in
+        record { row = 1; most = R .some; is = omega (arith, R .all, R .less, column-low); size = ap (λ (x : ℕ). length (orderTo D x)) next ∙ ap length (order-skip D (j * rows D) (omega arith)) ∙ sym o })
+        (λ l. record { row = 0; most = omega arith; is = omega (arith, R .all, R .less, column-low); size = ap (λ (x : ℕ). length (orderTo D x)) start ∙ sym o })
 
-  pub ordered-turn : (j i c n r : ℕ) (t t' : List ℕ) → j < 32 → i < rows D → c ≡ getD columns j 0 → Ordered D (j * rows D + i) n t
-      → PutPlace (i * 32 + c) (dummies D) n t r t' → Ordered D (j * rows D + (i + 1)) r t'
-  ordered-turn j i c n r t t' h l e o put =
-      let low = place-at j i h l in
-      let on : j * rows D + (i + 1) ≡ j * rows D + i + 1 = omega arith in
-      rw on (ordered-next D (j * rows D + i) n r (i * 32 + c) t t' (omega arith) (ap (λ (x : ℕ). i * 32 + x) e ∙ sym (read-at (rows D) i j l)) o put)
+    module _ (p n : ℕ) (k : Column D j c p n) where
+      module _ (l : p < D) where
+        here : ℕ
+        here = j * rows D + k .row
 
-  pub ordered-column : (j i n : ℕ) (t : List ℕ) → i ≡ rows D → Ordered D (j * rows D + i) n t → Ordered D ((j + 1) * rows D) n t
-  ordered-column j i n t e o =
-      let next : (j + 1) * rows D ≡ j * rows D + i = omega (arith, add-mul j 1 (rows D)) in
-      rw next o
+        inside : k .row < rows D
+        inside = let R = rows-of D some most in omega (arith, R .all, k .is)
 
-  pub ordered-all : (j n : ℕ) (t : List ℕ) → j ≡ 32 → Ordered D (j * rows D) n t → Placed D t
-  unfolding place order
-  ordered-all j n t e o =
-      let all : orderTo D (j * rows D) ≡ order D = ap (orderTo D) (ap (λ (x : ℕ). x * rows D) e ∙ mul-comm 32 (rows D)) in
-      let size : n ≡ D = sym (o .size) ∙ ap length all ∙ order-length D most in
-      record { len = o .len; at = λ j h. o .at j (omega arith) ∙ ap (λ (x : List ℕ). getD x j 0) all }
+        cell : matrixPlace (rows D) here ≡ p + dummies D
+        unfolding here
+        cell = read-at (rows D) (k .row) j inside ∙ omega (arith, e, k .is)
 
-  pub placed-lt : (j : ℕ) (t : List ℕ) → Placed D t → j < D → getD t j 0 < D
-  placed-lt j t o h = rw (o .at j h) (place-lt D some most j h)
+        more : orderTo D (suc here) ≡ orderTo D here ++ (p ∷ [])
+        more = order-put D here (omega (arith, cell)) ∙ ap (λ (x : ℕ). orderTo D here ++ (x ∷ [])) (omega (arith, cell))
+
+        -- it is the n-th that is sent
+        pub column-at : (n < D) × (p ≡ place D n)
+        unfolding place order here
+        column-at =
+            let size : length (orderTo D here) ≡ n = k .size in
+            let longer : length (orderTo D (suc here)) ≡ n + 1 = ap length more ∙ length-append (orderTo D here) (p ∷ []) ∙ omega arith in
+            let left : suc here + (rows D * 32 - suc here) ≡ rows D * 32 = omega (arith, digits-lt h inside, mul-comm 32 (rows D)) in
+            let on = order-more D (suc here) (rows D * 32 - suc here) n (omega arith) in
+            let whole : length (orderTo D (suc here + (rows D * 32 - suc here))) ≡ D = ap (λ (x : ℕ). length (orderTo D x)) left ∙ order-length D most in (
+              omega (arith, on .0),
+              sym (ap (λ (x : ℕ). getD (orderTo D x) n 0) (sym left) ∙ on .1 ∙ ap₂ (λ (y : List ℕ) (i : ℕ). getD y i 0) more (sym size) ∙ getD-append-seam (orderTo D here) p [] 0),
+            )
+
+        pub column-turn : Column D j c (p + 32) (n + 1)
+        unfolding here
+        column-turn =
+            let next : j * rows D + (k .row + 1) ≡ suc here = omega arith in
+            record {
+              row = k .row + 1;
+              most = omega (arith, inside);
+              is = omega (arith, k .is);
+              size = ap (λ (x : ℕ). length (orderTo D x)) next ∙ ap length more ∙ length-append (orderTo D here) (p ∷ []) ∙ omega (arith, k .size);
+            }
+
+      pub column-end : D ≤ p → n ≡ before D (j + 1)
+      unfolding before
+      column-end l =
+          let R = rows-of D some most in
+          let all : k .row ≡ rows D = omega (arith, R .all, k .is, k .most, column-low) in
+          let next : j * rows D + k .row ≡ (j + 1) * rows D = omega (arith, add-mul j 1 (rows D)) in
+          sym (k .size) ∙ ap (λ (x : ℕ). length (orderTo D x)) next
 
 -- ---- three streams in one pass
 

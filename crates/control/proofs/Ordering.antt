@@ -22,10 +22,11 @@ pub record Rows (D : ℕ) : Type 0 where
   pub some : 0 < rows D
   pub most : rows D ≤ 4
   pub all : dummies D + D ≡ rows D * 32
+  pub less : dummies D < 32
 
 pub rows-of : (D : ℕ) → 0 < D → D ≤ 128 → Rows D
 unfolding rows dummies ceil
-rows-of D h l = record { some = omega arith; most = omega arith; all = omega arith }
+rows-of D h l = record { some = omega arith; most = omega arith; all = omega arith; less = omega arith }
 
 column-low : ℕ → Bool
 column-low j = ltb (getD columns j 0) 32

@@ -4,7 +4,7 @@ use mathlib.Core.Bool.{cond}
 use mathlib.Core.List.{List, [], _∷_, _++_}
 use Prim.Native.Nat.{ℕ, zero, suc, _+_, _-_, _*_, _/_, _%_, _≤_, _<_}
 use lib.Dec.{ltb}
-use lib.ListN.{length, getD, set}
+use lib.ListN.{length, getD}
 use Rattle.bits.specs.Ranges.{listBelow}
 use Rattle.control.specs.Interleaver.{rows, dummies, matrixPlace}
 
@@ -27,22 +27,9 @@ place D j = getD (order D) j 0
 unfoldable pub spot : ℕ → ℕ → ℕ
 spot D k = k / D * D + place D (k % D)
 
--- b is a with the place behind the dummies put at n, and r the count then; nothing where p is a dummy
-pub record PutPlace (p dummies n : ℕ) (a : List ℕ) (r : ℕ) (b : List ℕ) : Type 0 where
-  pub skipped : p < dummies → (r ≡ n) × (b ≡ a)
-  pub put : dummies ≤ p → (r ≡ n + 1) × (b ≡ set a n (p - dummies))
-
--- n places are found before the k-th place of the matrix, and stand in t
-pub record Ordered (D k n : ℕ) (t : List ℕ) : Type 0 where
-  pub len : length t ≡ 128
-  pub size : length (orderTo D k) ≡ n
-  pub most : n ≤ k
-  pub at : (j : ℕ) → j < n → getD t j 0 ≡ getD (orderTo D k) j 0
-
--- the whole order stands in t
-pub record Placed (D : ℕ) (t : List ℕ) : Type 0 where
-  pub len : length t ≡ 128
-  pub at : (j : ℕ) → j < D → getD t j 0 ≡ place D j
+-- how many places of a stream are read before the j-th column
+unfoldable pub before : ℕ → ℕ → ℕ
+before D j = length (orderTo D (j * rows D))
 
 -- ---- three streams in one pass
 
@@ -73,3 +60,10 @@ pub record Scattered (D : ℕ) (bits : List ℕ) (n : ℕ) (a b : List ℕ) : Ty
   pub second : (j : ℕ) → j < n → getD b (D + place D j) 0 ≡ getD bits (D + j) 0
   pub third : (j : ℕ) → j < n → getD b (D + D + place D j) 0 ≡ getD bits (D + D + j) 0
   pub above : (p : ℕ) → D + D + D ≤ p → getD b p 0 ≡ getD a p 0
+
+-- where the first n of each stream are so in a, the first r are in b
+abbrev pub CollectedOn : ℕ → List ℕ → ℕ → ℕ → List ℕ → List ℕ → Type 0
+CollectedOn D S n r a b = (o : List ℕ) → Threes D (λ k. getD S (spot D k) 0) n o a → Threes D (λ k. getD S (spot D k) 0) r o b
+
+abbrev pub ScatteredOn : ℕ → List ℕ → ℕ → ℕ → List ℕ → List ℕ → Type 0
+ScatteredOn D bits n r a b = (o : List ℕ) → Scattered D bits n o a → Scattered D bits r o b

@@ -1,62 +1,41 @@
--- `control::streams::collect` meets its contract. The loop's invariant: the first j bits of each third are collected.
-use mathlib.Core.Path.{_∙_}
-use Prim.Native.Nat.{_-_, _≤_}
+-- `control::streams::collect` meets its contract. The loop's invariant: the columns before the j-th are collected.
+use mathlib.Core.Path.{_≡_, ap, _∙_}
+use mathlib.Core.List.{List}
+use Prim.Native.Nat.{ℕ, _-_, _≤_}
 use native.Mathlib.Omega.{arith}
 use lib.ListN.{getD}
 use denote.Ref.{now}
-use Rattle.control.specs.steps.Order.{spot, Threes}
-use Rattle.control.proofs.Loops.{placed-lt, threes-none, collected-turn, collected-all}
+use Rattle.control.specs.steps.Order.{before, spot, Threes}
+use Rattle.control.proofs.Loops.{before-none, before-all, threes-none, collected-all}
 use borrow.Author.Needs.{needs}
 use Rattle.control.proofs.streams.collect.Statement.{statement}
 use Rattle.control.proofs.streams.collect.Tie as tie
 
 abbrev Inv-loop : tie.InvT-loop
-Inv-loop d order streams out₀ two j₀ out j = (j ≤ d) × Threes d (λ k. getD streams (spot d k) 0) j out₀ out
+Inv-loop d streams out₀ columns n₀ j₀ out n j = (j ≤ 32) × (n ≡ before d j) × Threes d (λ k. getD streams (spot d k) 0) n out₀ out
 
 abbrev μ-loop : tie.MeasureT-loop
-μ-loop d order streams out₀ two j₀ out j = d - j
+μ-loop d streams out₀ columns n₀ j₀ out n j = 32 - j
 
-add-two : tie.Need-add-two Inv-loop μ-loop
-add-two c = search needs
+columns-requires : tie.Need-columns-requires Inv-loop μ-loop
+columns-requires c κs = search needs
 
 loop-holds : tie.Need-loop-holds Inv-loop μ-loop
-loop-holds c = (search needs, threes-none _ _ (now (c .before .before .args .out)))
+loop-holds c =
+    let a = c .before .before .before .args in
+    (search needs, before-none (a .d), threes-none _ _ (now (a .out)))
 
-element-copy-out-to-usize : tie.Need-element-copy-out-to-usize Inv-loop μ-loop
-element-copy-out-to-usize c = search needs
+mul-collect-column : tie.Need-mul-collect-column Inv-loop μ-loop
+mul-collect-column c = search needs
 
-to-usize-requires : tie.Need-to-usize-requires Inv-loop μ-loop
-to-usize-requires c κs = search needs
+array-read-collect-column : tie.Need-array-read-collect-column Inv-loop μ-loop
+array-read-collect-column c = search needs
 
-shared-slice-read-x : tie.Need-shared-slice-read-x Inv-loop μ-loop
-shared-slice-read-x c =
-    let st = c .before .before .before .before .before .before .before in
-    omega (arith, st .pre .3, placed-lt (st .args .d) (st .pre .0) (st .pre .1) (c .before .before .before .before .loop .j) (now (st .args .order)) (st .pre .2) (omega arith), c .before .to-usize .ensures .0)
-
-add-y : tie.Need-add-y Inv-loop μ-loop
-add-y c =
-    let st = c .before .before .before .before .before .before .before in
-    omega (arith, st .pre .3, placed-lt (st .args .d) (st .pre .0) (st .pre .1) (c .before .before .before .before .loop .j) (now (st .args .order)) (st .pre .2) (omega arith), c .before .to-usize .ensures .0)
-
-shared-slice-read-y : tie.Need-shared-slice-read-y Inv-loop μ-loop
-shared-slice-read-y c =
-    let st = c .before .before .before .before .before .before .before .before in
-    omega (arith, st .pre .3, placed-lt (st .args .d) (st .pre .0) (st .pre .1) (c .before .before .before .before .before .loop .j) (now (st .args .order)) (st .pre .2) (omega arith), c .before .before .to-usize .ensures .0)
-
-add-z : tie.Need-add-z Inv-loop μ-loop
-add-z c =
-    let st = c .before .before .before .before .before .before .before .before in
-    omega (arith, st .pre .3, placed-lt (st .args .d) (st .pre .0) (st .pre .1) (c .before .before .before .before .before .loop .j) (now (st .args .order)) (st .pre .2) (omega arith), c .before .before .to-usize .ensures .0)
-
-shared-slice-read-z : tie.Need-shared-slice-read-z Inv-loop μ-loop
-shared-slice-read-z c =
-    let st = c .before .before .before .before .before .before .before .before .before in
-    omega (arith, st .pre .3, placed-lt (st .args .d) (st .pre .0) (st .pre .1) (c .before .before .before .before .before .before .loop .j) (now (st .args .order)) (st .pre .2) (omega arith), c .before .before .before .to-usize .ensures .0)
-
-put-three-requires : tie.Need-put-three-requires Inv-loop μ-loop
-put-three-requires c κs =
-    let st = c .before .before .before .before .before .before .before .before .before .before in
-    (omega arith, omega (arith, c .before .before .before .before .before .before .before .loop .inv .1 .len, st .pre .4))
+collect-column-requires : tie.Need-collect-column-requires Inv-loop μ-loop
+collect-column-requires c κs =
+    let st = c .before .before .before .before .before .before in
+    let l = c .before .before .loop in
+    (st .pre .0, st .pre .1, search needs, ap (λ (t : List ℕ). getD t (l .j) 0) (c .before .before .before .columns .ensures), l .inv .1, st .pre .2, omega (arith, l .inv .2 .len, st .pre .3))
 
 add-j : tie.Need-add-j Inv-loop μ-loop
 add-j c = search needs
@@ -66,18 +45,19 @@ loop-less c = search needs
 
 loop-again : tie.Need-loop-again Inv-loop μ-loop
 loop-again c =
-    let st = c .before .before .before .before .before .before .before .before .before .before .before .before .before in
-    let l = c .before .before .before .before .before .before .before .before .before .before .loop in
-    (search needs, collected-turn (st .args .d) (st .pre .0) (st .pre .1) (now (st .args .streams)) (now (st .args .out)) (l .out) _ (l .j) (c .before .before .before .before .before .before .before .to-usize .result) (omega arith) (c .before .before .before .before .before .before .before .to-usize .ensures .0 ∙ st .pre .2 .at (l .j) (omega arith)) (l .inv .1) (c .before .before .put-three .ensures))
+    let l = c .before .before .before .before .before .loop in
+    let one = c .before .before .collect-column .ensures in
+    (search needs, one .0, one .1 _ (l .inv .2))
 
 same-length : tie.Need-same-length Inv-loop μ-loop
-same-length c = c .before .loop .inv .1 .len
+same-length c = c .before .loop .inv .2 .len
 
 returns : tie.Need-returns Inv-loop μ-loop
 returns c =
-    let st = c .before .before .before .before in
+    let st = c .before .before .before .before .before in
     let l = c .before .loop in
-    collected-all (st .args .d) (st .pre .0) (st .pre .1) (now (st .args .streams)) (now (st .args .out)) (l .out) (l .j) (omega arith) (st .pre .4) (l .inv .1)
+    let all = l .inv .1 ∙ before-all (st .args .d) (st .pre .0) (st .pre .1) (l .j) (omega arith) in
+    collected-all (st .args .d) (st .pre .0) (st .pre .1) (now (st .args .streams)) (now (st .args .out)) (l .out) (l .n) all (st .pre .3) (l .inv .2)
 
 pub collect-spec : {M : Type 1} → statement M
 collect-spec =
@@ -85,16 +65,11 @@ collect-spec =
     (tie.spec
     Inv-loop
     μ-loop
-    add-two
+    columns-requires
     loop-holds
-    element-copy-out-to-usize
-    to-usize-requires
-    shared-slice-read-x
-    add-y
-    shared-slice-read-y
-    add-z
-    shared-slice-read-z
-    put-three-requires
+    mul-collect-column
+    array-read-collect-column
+    collect-column-requires
     add-j
     loop-less
     loop-again

@@ -18,11 +18,11 @@ slice-aggregate-put-streams c = search needs
 put-streams-requires : tie.Need-put-streams-requires
 put-streams-requires c κs = (search needs, c .before .before .before .pre .2, search needs)
 
-add-n : tie.Need-add-n
-add-n c = search needs
+add-all : tie.Need-add-all
+add-all c = search needs
 
-add-n-2 : tie.Need-add-n-2
-add-n-2 c = search needs
+add-all-2 : tie.Need-add-all-2
+add-all-2 c = search needs
 
 array-share-prefix-room : tie.Need-array-share-prefix-room
 array-share-prefix-room c = search needs
@@ -55,8 +55,8 @@ send-coded-spec =
     (tie.spec
     slice-aggregate-put-streams
     put-streams-requires
-    add-n
-    add-n-2
+    add-all
+    add-all-2
     array-share-prefix-room
     slice-aggregate-send
     send-requires
