@@ -1,4 +1,4 @@
-# counts.awk MARKS JOBS: the table of instructions. One call is (the count of eight calls - the count of four) / 4.
+# counts.awk MARKS JOBS: the table of instructions. One call is (the count of twice as many calls - the count of so many) / so many.
 function ratio(job, side) {
     return (job, side) in one ? sprintf("%8.2f", one[job, "product"] / one[job, side]) : sprintf("%8s", "-")
 }
@@ -10,13 +10,14 @@ FNR == NR {
 
 {
     id = $2
-    sub(/^job [0-9]+ /, "")
+    calls = $3
+    sub(/^job [0-9]+ [0-9]+ /, "")
     split($0, part, "|")
     if (!(part[1] in seen)) {
         seen[part[1]] = 1
         jobs[++last] = part[1]
     }
-    one[part[1], part[2]] = (count[id + 1] - count[id]) / 4
+    one[part[1], part[2]] = (count[id + 1] - count[id]) / calls
 }
 
 END {

@@ -1,5 +1,5 @@
 # lines.awk: COUNT request lines of a SHAPE, with the records of the shelves PUBLIC and PRIVATE, which are given in hexadecimal.
-# A shape of what comes back (check, rate, recv, hrecv, tbback) is made of the file of the lines before it, each followed by its answer.
+# A shape of what comes back (check, rate, recv, hrecv, tbback, near 40) is made of the file of the lines before it, each followed by its answer.
 function value(at, octets,    i, sum) {
     for (i = 1; i <= 2 * octets; i++) sum = 16 * sum + index("0123456789abcdef", substr(public, 2 * at + i, 1)) - 1
     return sum
@@ -34,6 +34,7 @@ function line() {
     if (shape == "send 56 56 octets") return "send " r56 " " octets(56) " 1 2 580 580"
     if (shape == "send 56 2048 octets") return "send " r56 " " octets(2048) " 1 2 19976 19976"
     if (shape == "tbsend 40 as 120") return "tbsend " bits(40) " 120 120"
+    if (shape == "near 40 of no word") return "near 40 " bits(120) " 40"
     if (shape == "lookup 34") return "lookup " private " " public " 11 34"
     return "hsend " private " " public " 11 34 " octets(56) " 1 2 712 712"
 }
@@ -45,6 +46,7 @@ function line_of(sent, answer,    word, got) {
     if (shape == "check 56 z81") return "check " word[2] " 81 " got[3]
     if (shape == "rate 4000 bits") return "rate 4000 " got[3] " 4000"
     if (word[1] == "tbsend") return "tbback " length(word[2]) " " substr(unpacked(got[3]), 1, got[2]) " 120"
+    if (word[1] == "tbback") return "near " word[2] " " substr(unpacked(got[3]), 1, got[2]) " 40"
     if (word[1] == "send") return "recv " word[2] " " 4 * length(word[3]) " 1 2 " substr(unpacked(got[3]), 1, got[2]) " 2048"
     return "hrecv " word[2] " " word[3] " 11 34 448 1 2 " substr(unpacked(got[3]), 1, got[2]) " 56"
 }

@@ -205,6 +205,23 @@ control_words! {
         limit::control::code_word, limit::control::match_streams, limit::control::send_word, limit::control::streams_of;
 }
 
+macro_rules! nearest_words {
+    ($($name:ident $call:path;)*) => { $(
+        #[no_mangle]
+        pub unsafe extern "C" fn $name(d: usize, heard: *const u8, count: usize, out: *mut u8, room: usize) -> u64 {
+            match $call(d, read(heard, count), write(out, room)) {
+                Ok(differences) => (differences as u64) << 32 | (d as u64) << 48,
+                Err(number) => number.into(),
+            }
+        }
+    )* };
+}
+
+nearest_words! {
+    plain_nearest_word plain::nearest::nearest_word;
+    limit_nearest_word limit::nearest::nearest_word;
+}
+
 macro_rules! hosted {
     ($($lookup:ident $send:ident $receive:ident $found:path, $sent:path, $received:path;)*) => { $(
         #[no_mangle]

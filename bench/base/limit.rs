@@ -5,6 +5,7 @@ mod bits;
 pub mod checksum;
 pub mod control;
 pub mod matching;
+pub mod nearest;
 pub mod parity;
 pub mod receive;
 pub mod send;

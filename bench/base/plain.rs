@@ -4,6 +4,7 @@ pub mod checksum;
 pub mod control;
 pub mod judge;
 pub mod matching;
+pub mod nearest;
 pub mod octets;
 pub mod parity;
 pub mod receive;

@@ -18,12 +18,13 @@
     code_word_call P##_code_word;                                                                                      \
     match_streams_call P##_match_streams;                                                                              \
     send_word_call P##_send_word;                                                                                      \
-    streams_of_call P##_streams_of;
+    streams_of_call P##_streams_of;                                                                                    \
+    nearest_word_call P##_nearest_word;
 #define SIDE(NAME, P)                                                                                                  \
     { NAME,              P##_crc,       P##_crc_of_bits, P##_crc_of_block,   P##_judge,                                \
       P##_plan,          P##_match,     P##_code,        P##_check,          P##_send,                                 \
       P##_receive,       P##_lookup,    P##_hosted_send, P##_hosted_receive, P##_code_word,                            \
-      P##_match_streams, P##_send_word, P##_streams_of }
+      P##_match_streams, P##_send_word, P##_streams_of,  P##_nearest_word }
 
 CALLS(product)
 CALLS(plain)
@@ -77,7 +78,8 @@ int has(const struct side *side, const struct job *job) {
     case CODE_WORD: return side->code_word != 0;
     case MATCH_STREAMS: return side->match_streams != 0;
     case SEND_WORD: return side->send_word != 0;
-    default: return side->streams_of != 0;
+    case STREAMS_OF: return side->streams_of != 0;
+    default: return side->nearest_word != 0;
     }
 }
 
@@ -89,6 +91,13 @@ static uint64_t run_hosted(const struct side *s, const struct job *j) {
                               j->input_length, j->nl, j->qm, j->rv, j->edition, j->g, output, j->room);
     return s->hosted_receive(j->private, j->private_length, j->public, j->public_length, j->tenant, j->profile, j->a, j->nl,
                              j->qm, j->rv, j->edition, j->input, j->input_length, output, j->room);
+}
+
+/* All that is answered is put to the end of the output, behind any room for a word: what stands there is compared too. */
+static uint64_t run_nearest(const struct side *s, const struct job *j) {
+    uint64_t answer = s->nearest_word(j->z, j->input, j->input_length, output, j->room);
+    memcpy(output + OUTPUT - sizeof answer, &answer, sizeof answer);
+    return (uint32_t)answer;
 }
 
 uint64_t run(const struct side *s, const struct job *j) {
@@ -111,6 +120,7 @@ uint64_t run(const struct side *s, const struct job *j) {
     case MATCH_STREAMS: return s->match_streams(j->z, j->input, j->input_length, j->g, output, j->room);
     case SEND_WORD: return s->send_word(j->input, j->input_length, j->g, output, j->room);
     case STREAMS_OF: return s->streams_of(j->z, j->input, j->input_length, output, j->room);
+    case NEAREST_WORD: return run_nearest(s, j);
     default: return run_hosted(s, j);
     }
 }

@@ -23,6 +23,8 @@ typedef uint32_t code_word_call(in word, size_t count, u8 *out, size_t room);
 typedef uint32_t match_streams_call(size_t d, in streams, size_t count, size_t e, u8 *out, size_t room);
 typedef uint32_t send_word_call(in word, size_t count, size_t e, u8 *out, size_t room);
 typedef uint32_t streams_of_call(size_t d, in bits, size_t count, u8 *out, size_t room);
+/* What is answered has the number in its lowest 32 bits, above it the differences in 16, and above these the written octets. */
+typedef uint64_t nearest_word_call(size_t d, in heard, size_t count, u8 *out, size_t room);
 typedef size_t lookup_call(in private, size_t own, in public, size_t others, uint16_t tenant, uint16_t profile);
 typedef uint32_t hosted_send_call(in private, size_t own, in public, size_t others, uint16_t tenant, uint16_t profile,
                                   in block, size_t octets, size_t nl, size_t qm, size_t rv, size_t edition, size_t g, u8 *out,
@@ -50,6 +52,7 @@ struct side {
     match_streams_call *match_streams;
     send_word_call *send_word;
     streams_of_call *streams_of;
+    nearest_word_call *nearest_word;
 };
 
 /* In the order of the table's columns. */
@@ -61,7 +64,7 @@ enum { BY_PLAIN, BY_QUICK, CHECKERS };
 extern const struct side checkers[CHECKERS];
 
 enum kind { CRC, CRC_OF_BITS, CRC_OF_BLOCK, JUDGE, PLAN, MATCH, CODE, CHECK, SEND, RECEIVE, LOOKUP, HOSTED_SEND, HOSTED_RECEIVE,
-            CODE_WORD, MATCH_STREAMS, SEND_WORD, STREAMS_OF };
+            CODE_WORD, MATCH_STREAMS, SEND_WORD, STREAMS_OF, NEAREST_WORD };
 
 /* Inputs of a job that take turns where it is timed: a branch predictor learns one block by heart, and no user sends one block only. */
 enum { VARIANTS = 8 };
@@ -74,12 +77,13 @@ struct job {
     in private, public;
     size_t private_length, public_length;
     uint16_t tenant, profile;
-    size_t z; /* of a checksum: its width; of a plan: the octets; of a matching: the type; of streams: D */
+    size_t z; /* of a checksum: its width; of a plan: the octets; of a matching: the type; of streams and of what was heard: D */
     size_t nl, qm, rv, edition, g, a; /* g of a control word or of streams: E */
     u8 *input; /* the first of the inputs */
     u8 *inputs[VARIANTS];
     size_t input_length;
     size_t room;
+    int is_uneven; /* whether what a call takes depends on its input: then all of them are in each batch */
     int is_for_both; /* whether both checkers are asked; the plain one is too slow to be asked on every job */
 };
 

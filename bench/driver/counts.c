@@ -11,14 +11,30 @@ static volatile uint64_t sink;
 
 static void mark(int id) { syscall(SYS_close, MARK + id); }
 
-static void marked(const struct side *side, const struct job *job, int calls, int id) {
-    mark(BEGIN);
+/* With the inputs in turn, where what a call takes depends on them. */
+static void run_in_turn(const struct side *side, const struct job *job, int calls) {
+    struct job one = *job;
+    for (int k = 0; k < calls; k++) {
+        one.input = job->inputs[k % VARIANTS];
+        sink += run(side, &one);
+    }
+}
+
+static void run_again(const struct side *side, const struct job *job, int calls) {
     for (int k = 0; k < calls; k++)
         sink += run(side, job);
+}
+
+static void marked(const struct side *side, const struct job *job, int calls, int id) {
+    mark(BEGIN);
+    if (job->is_uneven)
+        run_in_turn(side, job, calls);
+    else
+        run_again(side, job, calls);
     mark(id);
 }
 
-/* Four calls and eight: the difference is four, without what surrounds them. */
+/* Four calls and eight: the difference is four, without what surrounds them. Where the inputs take turns it is one call of each. */
 void mark_counts(const char *only) {
     int id = FIRST;
     for (int k = 0; k < job_count; k++)
@@ -26,10 +42,11 @@ void mark_counts(const char *only) {
             if (!is_asked(&jobs[k], only) || !has(&sides[i], &jobs[k]))
                 continue;
             sink += run(&sides[i], &jobs[k]);
-            printf("job %d %s|%s\n", id, jobs[k].name, sides[i].name);
+            int calls = jobs[k].is_uneven ? VARIANTS : 4;
+            printf("job %d %d %s|%s\n", id, calls, jobs[k].name, sides[i].name);
             fflush(stdout);
-            marked(&sides[i], &jobs[k], 4, id);
-            marked(&sides[i], &jobs[k], 8, id + 1);
+            marked(&sides[i], &jobs[k], calls, id);
+            marked(&sides[i], &jobs[k], 2 * calls, id + 1);
             id += 2;
         }
 }

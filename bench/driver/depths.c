@@ -126,6 +126,7 @@ static const struct call calls[] = {
     { "match its streams", &sides[PRODUCT], MATCH_STREAMS, 0 },
     { "send a control word", &sides[PRODUCT], SEND_WORD, 0 },
     { "take its streams back", &sides[PRODUCT], STREAMS_OF, 0 },
+    { "find the nearest word", &sides[PRODUCT], NEAREST_WORD, 0 },
     { "look up and check", 0, HOSTED_RECEIVE, hosted_check },
     { "number of a lookup", 0, LOOKUP, lookup_number },
     { "least G", 0, SEND, least_bits },

@@ -253,6 +253,59 @@ static void add_control_words(void) {
     add_back(add_sent_word(128, 5120));
 }
 
+/* A word of D bits is looked for. How many starts are tried depends on what was heard. */
+static struct job *add_heard(size_t d, const char *what) {
+    char name[48];
+    snprintf(name, sizeof name, "nearest %zu %s", d, what);
+    struct job *job = add(NEAREST_WORD, name);
+    job->z = d;
+    job->is_uneven = 1;
+    return job;
+}
+
+/* It is looked for in the streams of words. */
+static struct job *add_coded(size_t d, const char *what) {
+    struct job word = { .name = "code", .kind = CODE_WORD, .room = 3 * d }, *job = add_heard(d, what);
+    give_input(&word, d, 1);
+    give_output_of(job, word, 3 * d);
+    for (int v = 0; v < VARIANTS; v++)
+        free(word.inputs[v]);
+    return job;
+}
+
+/* Turns so many bits round, each at a place of its own. */
+static void turn(u8 *bits, size_t length, size_t count) {
+    u8 is_turned[384] = { 0 };
+    while (count) {
+        size_t place = drawn() % length;
+        if (is_turned[place])
+            continue;
+        is_turned[place] = 1;
+        bits[place] ^= 1;
+        count--;
+    }
+}
+
+/* Clean, with every twentieth bit wrong, and of no word at all. */
+static void add_nearest(size_t d) {
+    add_coded(d, "clean");
+    struct job *noisy = add_coded(d, "noisy");
+    for (int v = 0; v < VARIANTS; v++)
+        turn(noisy->inputs[v], 3 * d, (3 * d + 10) / 20);
+    give_input(add_heard(d, "random"), 3 * d, 1);
+}
+
+/* The nearest word, short to long, and the refusal that is found last. */
+static void add_nearest_words(void) {
+    add_nearest(6);
+    add_nearest(22);
+    add_nearest(40);
+    add_nearest(128);
+    struct job *refused = add_coded(128, "refused");
+    for (int v = 0; v < VARIANTS; v++)
+        refused->inputs[v][383] = 2;
+}
+
 static void ask_both(const char *name) {
     for (int k = 0; k < job_count; k++)
         if (!strcmp(jobs[k].name, name)) {
@@ -297,5 +350,6 @@ void make_jobs(const char *shelves) {
     add_type_2();
     add_edition_2();
     add_control_words();
+    add_nearest_words();
     ask_both_checkers();
 }

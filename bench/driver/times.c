@@ -50,6 +50,8 @@ static void measure(const struct side *all, int count, const struct job *job, in
         if (has(&all[i], job)) {
             timed(&all[i], job, VARIANTS, 0);
             calls[i] = BATCH / (timed(&all[i], job, VARIANTS, 0) + 1) + 1;
+            if (job->is_uneven)
+                calls[i] += VARIANTS - 1 - (calls[i] - 1) % VARIANTS;
         }
     for (int r = 0; r < rounds; r++)
         measure_round(all, job, calls, r);

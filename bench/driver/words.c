@@ -1,11 +1,12 @@
-/* Asserts that all sides answer and write the same on control words of any length, sent as any count of bits and into any room. */
+/* Asserts that all sides answer and write the same on control words of any length, sent as any count of bits and into any room, and that
+   they find the same word in streams with any number of bits turned. */
 #include "calls.h"
 #include <stdio.h>
 #include <stdlib.h>
 #include <string.h>
 
 /* Of any length that is drawn: a word, its streams, and what these are sent as. */
-static u8 word[160], streams[480], bits[OUTPUT];
+static u8 word[160], streams[480], bits[OUTPUT], heard[480];
 
 /* A number, or, once in eight times, the one below or the one above. */
 static size_t about(size_t number) { return drawn() % 8 ? number : drawn() % 2 ? number + 1 : number - (number > 0); }
@@ -104,19 +105,41 @@ static void compare_back(size_t d, size_t e, int is_known, long seen[NUMBERS], l
     compare_changed(job, seen, differ);
 }
 
+/* A word is the nearest to its own streams. */
+static void compare_nearest(size_t d, int is_coded, long seen[NUMBERS], long *differ) {
+    struct job job = any_job("find any word", NEAREST_WORD, streams, about(3 * d), about(d));
+    job.z = d;
+    if (answered(&job, seen, differ) == 0 && is_coded && memcmp(output, word, d))
+        ++*differ;
+}
+
+/* In streams of which a few bits are turned, or half of all, so that often many words are as near; once in eight times one is no bit. */
+static void compare_heard(size_t d, long seen[NUMBERS], long *differ) {
+    struct job job = any_job("find any heard", NEAREST_WORD, heard, about(3 * d), about(d));
+    size_t one_in = drawn() % 2 ? 2 : 2 + drawn() % 40;
+    for (size_t k = 0; k < sizeof heard; k++)
+        heard[k] = streams[k] ^ (drawn() % one_in == 0);
+    if (d && drawn() % 8 == 0)
+        heard[drawn() % (3 * d)] = drawn();
+    job.z = d;
+    answered(&job, seen, differ);
+}
+
 static void compare_word(long seen[NUMBERS], long *differ) {
     size_t d = any_length(), e = any_count(d);
     draw_bits(word, d);
     int is_coded = compare_coded(d, seen, differ) == 0, is_matched = compare_matched(d, e, seen, differ) == 0;
     compare_sent(d, e, is_coded && is_matched, seen, differ);
     compare_back(d, e, is_matched, seen, differ);
+    compare_nearest(d, is_coded, seen, differ);
+    compare_heard(d, seen, differ);
 }
 
 void compare_control_words(long count) {
     long seen[NUMBERS] = { 0 }, differ = 0;
     for (long k = 0; k < count; k++)
         compare_word(seen, &differ);
-    printf("%ld control words of any length, coded, matched, sent and taken back, also with one bit changed: %ld answered differently. Answered numbers, and how often:\n",
+    printf("%ld control words of any length, coded, matched, sent and taken back, also with one bit changed, and found again, also with any bits turned: %ld answered differently. Answered numbers, and how often:\n",
            count, differ);
     print_seen(seen);
     if (differ)

@@ -5,7 +5,7 @@ use super::octets::some_over;
 /// The most bits of three streams.
 pub const STREAMS: usize = 3 * 128;
 
-const GENERATORS: [u8; 3] = [0o133, 0o171, 0o165];
+pub const GENERATORS: [u8; 3] = [0o133, 0o171, 0o165];
 
 pub const COLUMNS: [usize; 32] = [
     1, 17, 9, 25, 5, 21, 13, 29, 3, 19, 11, 27, 7, 23, 15, 31, 0, 16, 8, 24, 4, 20, 12, 28, 2, 18, 10, 26, 6, 22, 14,
@@ -89,7 +89,7 @@ pub fn back_accepted(d: usize, bits: &[u8], room: usize) -> Result<(), u32> {
     Ok(())
 }
 
-fn length_accepted(d: usize) -> Result<(), u32> {
+pub fn length_accepted(d: usize) -> Result<(), u32> {
     if (6..=128).contains(&d) {
         Ok(())
     } else {
@@ -105,7 +105,7 @@ fn count_accepted(e: usize) -> Result<(), u32> {
     }
 }
 
-fn output_accepted(due: usize, room: usize) -> Result<(), u32> {
+pub fn output_accepted(due: usize, room: usize) -> Result<(), u32> {
     if room < due {
         Err(11)
     } else {
@@ -113,7 +113,7 @@ fn output_accepted(due: usize, room: usize) -> Result<(), u32> {
     }
 }
 
-fn bits_accepted(bits: &[u8]) -> Result<(), u32> {
+pub fn bits_accepted(bits: &[u8]) -> Result<(), u32> {
     if some_over(1, bits) {
         Err(12)
     } else {

@@ -5,5 +5,6 @@ pub mod Backwards
 pub mod Sending
 pub mod Registers
 pub mod Taps
+pub mod Apart
 pub mod Answers
 pub mod Agreement

@@ -108,11 +108,11 @@ module _ (c : List ℕ) where
   unfolding streams
   first-in i h = List·getD-append (stream 0o133 (preset c) c) _ 0 i (omega (arith, length-stream 0o133 (preset c) c))
 
-  second-in : (i : ℕ) → i < length c → getD (streams c) (length c + i) 0 ≡ getD (stream 0o171 (preset c) c) i 0
+  pub second-in : (i : ℕ) → i < length c → getD (streams c) (length c + i) 0 ≡ getD (stream 0o171 (preset c) c) i 0
   unfolding streams
   second-in i h = behind 0o133 i _ ∙ List·getD-append (stream 0o171 (preset c) c) _ 0 i (omega (arith, length-stream 0o171 (preset c) c))
 
-  third-in : (i : ℕ) → i < length c → getD (streams c) (length c + length c + i) 0 ≡ getD (stream 0o165 (preset c) c) i 0
+  pub third-in : (i : ℕ) → i < length c → getD (streams c) (length c + length c + i) 0 ≡ getD (stream 0o165 (preset c) c) i 0
   unfolding streams
   third-in i h =
       ap (λ (n : ℕ). getD (stream 0o133 (preset c) c ++ (stream 0o171 (preset c) c ++ stream 0o165 (preset c) c)) n 0) (add-assoc (length c) (length c) i)

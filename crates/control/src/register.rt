@@ -1,11 +1,12 @@
 // The register of six bits, the newest highest, preset to the last six input bits, and its three outputs (004, section 5.1.3.1).
+use crate::inner::output;
 use crate::three::put_three;
 ghost use mathlib.Core.Path.{_≡_};
 ghost use mathlib.Core.List.{_++_};
 ghost use Prim.Native.Nat.{_+_, _*_, _<_, _≤_};
 ghost use lib.ListN.{length, drop};
 ghost use Rattle.bits.specs.Bits.{AreBits};
-ghost use Rattle.control.specs.Register.{output, preset, streams};
+ghost use Rattle.control.specs.Register.{preset, streams};
 
 // A bit above the six of a state.
 fn above(x: u8, s: u32) -> u32
@@ -13,13 +14,6 @@ fn above(x: u8, s: u32) -> u32
     ensures { λ r. ⌜ (r ≡ x * 64 + s) × (r < 128) ⌝ }
 {
     (x as u32) * 64 + s
-}
-
-// The output bit of the generator g: the ones of the masked register modulo two.
-fn output(g: u32, r: u32) -> u8
-    ensures { λ x. ⌜ x ≡ output g r ⌝ }
-{
-    (u32::count_ones(r & g) % 2) as u8
 }
 
 // The state after the last six bits.

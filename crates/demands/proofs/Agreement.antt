@@ -29,6 +29,9 @@ use Rattle.matching.specs.Promises.{RateMatched}
 use Rattle.matching.proofs.Agreement.{rate-match-agree}
 use Rattle.control.specs.Promises.{WordCoded, StreamsMatched, WordSent, StreamsFound}
 use Rattle.control.proofs.Agreement.{wrote-agree}
+use Rattle.nearest.specs.Promises.{WordFound}
+use Rattle.nearest.specs.declared.Closest.{Closest}
+use Rattle.nearest.proofs.Agreement.{found-agree}
 use Rattle.coding.specs.Promises.{Sent, Received}
 use Rattle.coding.proofs.Agreement.{send-agree, receive-agree}
 use Rattle.shelf.specs.Lookup.{lookupNumber}
@@ -118,6 +121,11 @@ send-word c e a b = wrote-agree a b
 
 pub streams-of : (D : ℕ) (bits : List ℕ) {out : List ℕ} {r r' : Written} {o o' : List ℕ} → StreamsFound D bits out r o → StreamsFound D bits out r' o' → (r ≡ r') × (o ≡ o')
 streams-of D bits a b = wrote-agree a b
+
+-- ---- nearest::nearest_word
+
+pub nearest-word : (D : ℕ) (heard : List ℕ) {out : List ℕ} {r r' : Closest} {o o' : List ℕ} → WordFound D heard out r o → WordFound D heard out r' o' → (r ≡ r') × (o ≡ o')
+nearest-word D heard a b = found-agree a b
 
 -- ---- advice::least_bits
 

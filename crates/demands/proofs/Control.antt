@@ -65,7 +65,7 @@ module _ (c : List ℕ) (bits : AreBits c) (six : 6 ≤ length c) where
 
 -- ---- what the calls write
 
-written : (n size : ℕ) (new out : List ℕ) (o : List ℕ) → n ≡ 0 → length new ≡ size → o ≡ whenDone n (new ++ drop size out) out → take size o ≡ new
+pub written : (n size : ℕ) (new out : List ℕ) (o : List ℕ) → n ≡ 0 → length new ≡ size → o ≡ whenDone n (new ++ drop size out) out → take size o ≡ new
 written n size new out o e l w = ap (take size) (w ∙ when-done n (new ++ drop size out) out e) ∙ take-at new (drop size out) size l
 
 -- ---- both in one call: sending a word is coding it and matching its streams

@@ -8,10 +8,12 @@ use Prim.Native.Nat.{ℕ, _+_, _*_, _/_}
 use denote.Ref.{RefT, now, ptr}
 use borrow.Author.Tests.{ltb-false}
 use lib.ListN.{length}
+use Rattle.bits.specs.Bits.{digits}
 use Rattle.bits.specs.Numbers.{whenDone}
 use Rattle.bits.specs.declared.number.Written.{Written}
 use Rattle.bits.specs.declared.count.Terms.{Terms}
 use Rattle.bits.proofs.Answers.{Refusals, when-refused}
+use Rattle.bits.proofs.Digits.{length-digits}
 use Rattle.bits.proofs.Listed.{length-list}
 use Rattle.bits.proofs.Ranges.{equal-or}
 use Rattle.checksum.specs.Promises.{generator, bitsConditions, bitsNumber, OfBits, octetsConditions, octetsNumber, OfOctets}
@@ -46,6 +48,9 @@ use Rattle.control.specs.Promises.{codeWordConditions, codeWordNumber, WordCode
 use Rattle.control.proofs.Registers.{length-streams}
 use Rattle.control.proofs.Sending.{length-sent}
 use Rattle.control.proofs.Backwards.{found-length}
+use Rattle.nearest.specs.Nearest.{away, nearest}
+use Rattle.nearest.specs.Promises.{nearestWordConditions, nearestWordNumber, WordFound}
+use Rattle.nearest.specs.declared.Closest.{Closest}
 use Rattle.coding.specs.Joining.{radioBits}
 use Rattle.coding.specs.Receiving.{receivedBlock}
 use Rattle.coding.specs.Promises.{sendConditions, sendNumber, Sent, receiveConditions, receiveNumber, Received}
@@ -430,6 +435,45 @@ module _ (D : ℕ) (bits : List ℕ) where
       → StreamsFound D bits out r o → StreamsFound D bits other s u → Alike r o s u
   streams-of-alike q a b =
       outputs.alike streams-of-fits q (wrote-writes (streamsOfNumber D bits) _ (streamsAs D bits) a) (wrote-writes (streamsOfNumber D bits) _ (streamsAs D bits) b)
+
+-- nearest::nearest_word: of its answer the number and the count are those of a call that writes, and the differences are said beside
+abbrev pub writtenOf : Closest → Written
+writtenOf r = record { number = r .number; count = r .count }
+
+module _ (D : ℕ) (heard : List ℕ) where
+  nearest-word-answers : (room : ℕ) {r : ℕ} → r ≡ nearestWordNumber D heard room → Answers r (nearestWordConditions D heard room)
+  unfolding nearestWordNumber Refusals
+  nearest-word-answers room q = answers (nearestWordConditions D heard room) tt q
+
+  nearest-word-fits : outputs.Fitting (nearestWordNumber D heard) D (digits D (nearest D heard))
+  unfolding NoneHolds
+  nearest-word-fits =
+      record {
+        size = λ room q. length-digits D (nearest D heard);
+        room = λ room q. let h = nearest-word-answers room (sym q) .only-done refl in ltb-false room D (h .1 .1 .0);
+      }
+
+  found-writes : {out : List ℕ} {r : Closest} {o : List ℕ} → WordFound D heard out r o
+      → outputs.Writes (nearestWordNumber D heard) D (digits D (nearest D heard)) out (writtenOf r) o
+  found-writes a = record { number = a .number; count = a .count; output = a .output }
+
+  pub nearest-word-number : {out : List ℕ} {r : Closest} {o : List ℕ} → WordFound D heard out r o
+      → Answers (r .number) (nearestWordConditions D heard (length out))
+  nearest-word-number {out} a = nearest-word-answers (length out) (a .number)
+
+  pub nearest-word-refused : {out : List ℕ} {r : Closest} {o : List ℕ} → WordFound D heard out r o → (r .number ≡ 0 → ⊥) → r .differences ≡ 0
+  nearest-word-refused {out} a n =
+      a .differences ∙ when-refused (nearestWordNumber D heard (length out)) (away D heard (nearest D heard)) 0 (λ z. n (a .number ∙ z))
+
+  pub nearest-word-confined : {out : List ℕ} {r : Closest} {o : List ℕ} → WordFound D heard out r o → Confined out (writtenOf r) o
+  nearest-word-confined a = outputs.confined nearest-word-fits (found-writes a)
+
+  pub nearest-word-alike : {out : List ℕ} {r : Closest} {o other : List ℕ} {s : Closest} {u : List ℕ} → length out ≡ length other
+      → WordFound D heard out r o → WordFound D heard other s u → Alike (writtenOf r) o (writtenOf s) u × (r .differences ≡ s .differences)
+  nearest-word-alike q a b = (
+    outputs.alike nearest-word-fits q (found-writes a) (found-writes b),
+    a .differences ∙ ap (λ (n : ℕ). whenDone (nearestWordNumber D heard n) (away D heard (nearest D heard)) 0) q ∙ sym (b .differences),
+  )
 
 -- keeping::put_record
 module _ (S : List ℕ) (t p : ℕ) (R : List ℕ) where

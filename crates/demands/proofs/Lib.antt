@@ -21,3 +21,4 @@ pub mod Found
 pub mod Kept
 pub mod Keeping
 pub mod Control
+pub mod Nearest

@@ -1,5 +1,5 @@
 -- "The lowest number that applies is answered", by every call of document 01 and those of CR 9, CR 4 and CR 8, 16 standing "between 7 and 8" as CR 3 has it
--- and 19 "before 7" as CR 8 has it, by the calls that keep a shelf, 26 standing before 11, and by those of CR 5, 17 standing before all others: their lists rise
+-- and 19 "before 7" as CR 8 has it, by the calls that keep a shelf, 26 standing before 11, and by those of CR 5 and CR 10, 17 standing before all others: their lists rise
 -- by rank, so the first number whose condition holds is the lowest.
 use mathlib.Core.Path.{_≡_, refl}
 use mathlib.Core.List.{List, _++_}
@@ -20,13 +20,15 @@ use Rattle.checking.specs.Promises.{checkConditions, WordChecked, sumsCondition
 use Rattle.checking.specs.declared.Verdict.{Verdict}
 use Rattle.matching.specs.Promises.{matchConditions, RateMatched}
 use Rattle.control.specs.Promises.{codeWordConditions, WordCoded, matchStreamsConditions, StreamsMatched, sendWordConditions, WordSent, streamsOfConditions, StreamsFound}
+use Rattle.nearest.specs.Promises.{nearestWordConditions, WordFound}
+use Rattle.nearest.specs.declared.Closest.{Closest}
 use Rattle.coding.specs.Promises.{sendConditions, Sent, receiveConditions, Received}
 use Rattle.shelf.specs.Lookup.{lookupConditions, lookupNumber, lookupRecord}
 use Rattle.shelf.specs.Promises.{HostedSent, HostedReceived, HostedChecked}
 use Rattle.keeping.specs.Promises.{putConditions, RecordPut, removeConditions, RecordRemoved}
 use Rattle.demands.specs.Numbers.{rank, Lowest}
 use Rattle.demands.proofs.Lowest.{rising, lowest}
-use Rattle.demands.proofs.Demand1.{of-bits-number, of-octets-number, of-block-bits-number, sum-under-number, append-number, test-number, judge-number, plan-block-number, code-block-number, check-word-number, row-sums-number, rate-match-number, send-number, receive-number, lookup-number-number, hosted-send-number, hosted-receive-number, hosted-check-number, put-number, remove-number, code-word-number, match-streams-number, send-word-number, streams-of-number}
+use Rattle.demands.proofs.Demand1.{of-bits-number, of-octets-number, of-block-bits-number, sum-under-number, append-number, test-number, judge-number, plan-block-number, code-block-number, check-word-number, row-sums-number, rate-match-number, send-number, receive-number, lookup-number-number, hosted-send-number, hosted-receive-number, hosted-check-number, put-number, remove-number, code-word-number, match-streams-number, send-word-number, streams-of-number, nearest-word-number}
 
 pub of-bits-lowest : {w : ℕ} {bits : List ℕ} {r : Sum} → OfBits w bits r
     → Lowest (r .number) (bitsConditions w bits)
@@ -147,3 +149,8 @@ pub streams-of-lowest : (D : ℕ) (bits : List ℕ) {out : List ℕ} {r : Writte
     → Lowest (r .number) (streamsOfConditions D bits (length out))
 unfolding rising rank
 streams-of-lowest D bits {out} a = lowest (streamsOfConditions D bits (length out)) refl (streams-of-number D bits a)
+
+pub nearest-word-lowest : (D : ℕ) (heard : List ℕ) {out : List ℕ} {r : Closest} {o : List ℕ} → WordFound D heard out r o
+    → Lowest (r .number) (nearestWordConditions D heard (length out))
+unfolding rising rank
+nearest-word-lowest D heard {out} a = lowest (nearestWordConditions D heard (length out)) refl (nearest-word-number D heard a)

@@ -2,10 +2,11 @@
 -- of CR 8, and in a fourth those of CR 5: what the definitions compute, and what is due.
 use mathlib.Core.Bool.{cond}
 use mathlib.Core.List.{List, [], _∷_, _++_}
-use Prim.Native.Nat.{ℕ, _+_, _-_}
+use Prim.Native.Nat.{ℕ, _+_, _-_, _^_}
+use lib.Dec.{eqb}
 use lib.ListN.{take, replicate}
-use Rattle.bits.specs.Bits.{unpacked}
-use Rattle.bits.specs.Ranges.{listBelow}
+use Rattle.bits.specs.Bits.{unpacked, digits}
+use Rattle.bits.specs.Ranges.{sumBelow, listBelow}
 use Rattle.bits.specs.declared.count.Terms.{Terms}
 use Rattle.checksum.specs.Crc.{checksum, gen24A, gen16, gen8}
 use Rattle.profile.specs.Record.{kind, z, rows, columns, table}
@@ -16,6 +17,7 @@ use Rattle.parity.specs.Coded.{coded}
 use Rattle.matching.specs.Matching.{matchedFrom}
 use Rattle.control.specs.Register.{streams}
 use Rattle.control.specs.Interleaver.{sent}
+use Rattle.nearest.specs.Nearest.{away, nearest}
 use Rattle.coding.specs.Allocation.{share}
 use Rattle.coding.specs.Joining.{radioBits}
 
@@ -248,6 +250,26 @@ controlWords =
     ∷ record { computed = sent 6 (streams controlWord) 20; due = take 20 (unpacked (0xED ∷ 0x6B ∷ 0xF0 ∷ [])) }
     -- of 40 bits the places 9, 25, 17, 1 and 33 of the first stream are sent first: each place holds its own number and three, so that none reads as a mark
     ∷ record { computed = sent 40 (listBelow 120 (λ i. i + 3)) 5; due = (9 + 3) ∷ (25 + 3) ∷ (17 + 3) ∷ (1 + 3) ∷ (33 + 3) ∷ [] }
+    ∷ []
+
+-- ---- the nearest control word (document 02, CR 10)
+
+-- three streams, each by the number that its bits are
+abbrev pub threeStreams : ℕ → ℕ → ℕ → ℕ → List ℕ
+threeStreams D a b c = digits D a ++ (digits D b ++ digits D c)
+
+-- the nearest word, in how many places its code differs, and how many words are that far away
+abbrev pub nearestOf : ℕ → List ℕ → ℕ → List ℕ
+nearestOf D heard far = nearest D heard ∷ away D heard (nearest D heard) ∷ sumBelow (2 ^ D) (λ k. cond (eqb (away D heard k) far) 1 0) ∷ []
+
+unfoldable pub nearestWords : List Case
+nearestWords =
+    -- 011010 111000 110100 is the code of 000001
+    record { computed = nearestOf 6 (threeStreams 6 26 56 52) 0; due = 1 ∷ 0 ∷ 1 ∷ [] }
+    -- 001011 110010 110110 gives 011011 with 4, and three words are as near
+    ∷ record { computed = nearestOf 6 (threeStreams 6 11 50 54) 4; due = 27 ∷ 4 ∷ 3 ∷ [] }
+    -- 1101001 1101000 1001101 gives 0101001 with 6, and four words are as near
+    ∷ record { computed = nearestOf 7 (threeStreams 7 105 104 77) 6; due = 41 ∷ 6 ∷ 4 ∷ [] }
     ∷ []
 
 -- ---- the columns of the tables

@@ -50,6 +50,7 @@ Coding, for a tenant and a profile number:
 Control words:
   kuambyte control send BITS [--text] < word > bits           write the bits that a control word is sent as
   kuambyte control receive LENGTH [--text] < bits > streams   write the three streams that were sent as bits
+  kuambyte nearest LENGTH [--text] < streams > word           write the control word whose streams are nearest to these
 
 Shelves and records:
   kuambyte shelf private|public FILE              write a table of what is on a shelf, or the first rule that it breaks

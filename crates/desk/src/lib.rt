@@ -17,6 +17,7 @@ use packing::unpack;
 use shelving::listing;
 use shelving::put;
 use shelving::remove;
+use signalling::near;
 
 // Runs the command that the words ask for, and answers the exit status. `help` and the name of a command is the command with --help.
 pub fn run() -> i32 {
@@ -58,6 +59,7 @@ unpack
 put
 remove
 control
+nearest
 ";
     list::find(names, &word[..n])
 }
@@ -85,6 +87,7 @@ fn command(line: usize, place: usize, words: Words) -> i32 {
         14 => put::run(words),
         15 => remove::run(words),
         16 => signalling::run(words),
+        17 => near::run(words),
         _ => help::unknown(place),
     }
 }

@@ -35,10 +35,10 @@ fn write() -> i32 {
         b"
 1 to 4 belong to the lookup, 5 to 11, 16 and 19 to sending, 5 to 14, 16 and 19 to receiving, 15 to no call. Checking a word
 answers 5, 6, 8 for a z or a length that the profile does not have, and 12. Putting a record on a private shelf answers 1, 2, 5,
-6, 26 and 11, and removing one 1, 2, 4 and 11. Of a control word, sending answers 17, 8, 11 and 12, and receiving 13 and 14 too.
-Numbers are tested in their order, but 17 before all others, 19 before 7, 16 before 8 and 26 before 11; the first that applies is
-answered, and it is the exit status. Other statuses: 64 wrong words, 65 a text that is no shelf, 74 a file that cannot be read or
-a write that failed.
+6, 26 and 11, and removing one 1, 2, 4 and 11. Of a control word, sending answers 17, 8, 11 and 12, and receiving 13 and 14 too;
+finding the nearest answers 17, 8 for streams that are not three times its length, 11 and 12. Numbers are tested in their order,
+but 17 before all others, 19 before 7, 16 before 8 and 26 before 11; the first that applies is answered, and it is the exit
+status. Other statuses: 64 wrong words, 65 a text that is no shelf, 74 a file that cannot be read or a write that failed.
 ",
         &mut page,
         b,

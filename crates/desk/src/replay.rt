@@ -44,6 +44,7 @@ Reads requests, one to a line, and writes an answer to each. Requests, and what 
   tbrm D STREAMS E OUTLEN            the bits that are sent of three streams of D bits
   tbsend BITS E OUTLEN               the bits that are sent of a control word
   tbback D BITS OUTLEN               the three streams of D bits that were sent as these bits
+  near D STREAMS OUTLEN              the control word whose streams differ from these in the fewest places, and in how many
 
 SHELVES are two words, PRIVATE and PUBLIC; behind PROFILE the words of send, recv and check behind RECORD.
 check, recv, hrecv and hcheck may end in by=quick or by=plain: which checker is asked, quick where nothing is said.

@@ -43,6 +43,12 @@ pub enum Answer {
         number: u32,
         count: usize,
     },
+    // So many bits of what was lent, and in how many places their code differs from the streams that were heard.
+    Near {
+        number: u32,
+        count: usize,
+        differences: usize,
+    },
 }
 
 // The octets that an answer may have, with the digits of all that was lent.
@@ -77,6 +83,11 @@ pub fn put(answer: Answer, lent: &[u8], out: &mut [u8], at: usize) -> usize
             number,
             count,
         } => written(shown, number, octets::first(lent, count), out, at),
+        Answer::Near {
+            number,
+            count,
+            differences,
+        } => near(number, octets::first(lent, count), differences, out, at),
     }
 }
 
@@ -168,9 +179,26 @@ fn written(shown: Shown, number: u32, part: &[u8], out: &mut [u8], at: usize) ->
     requires { ⌜ Roomy at (now part) (now out) ⌝ }
     ensures { λ r. ⌜ r ≤ length (now (out .entry)) ⌝ }
 {
+    let end = counted(shown, number, part, out, at);
+    octets::put_one(b'\n', out, end)
+}
+
+fn near(number: u32, part: &[u8], differences: usize, out: &mut [u8], at: usize) -> usize
+    requires { ⌜ Roomy at (now part) (now out) ⌝ }
+    ensures { λ r. ⌜ r ≤ length (now (out .entry)) ⌝ }
+{
+    let space = counted(Shown::Bits, number, part, out, at);
+    let end = numbers::next_decimal(differences as u64, out, space);
+    octets::put_one(b'\n', out, end)
+}
+
+// The number, the count and what was written.
+fn counted(shown: Shown, number: u32, part: &[u8], out: &mut [u8], at: usize) -> usize
+    requires { ⌜ Roomy at (now part) (now out) ⌝ }
+    ensures { λ r. ⌜ r ≤ at + 2 * length (now (part .entry)) + 64 ⌝ }
+{
     let count = numbers::decimal(number as u64, out, at);
     let space = numbers::next_decimal(part.len() as u64, out, count);
     let next = octets::put_one(b' ', out, space);
-    let end = shown::put(shown, part, out, next);
-    octets::put_one(b'\n', out, end)
+    shown::put(shown, part, out, next)
 }

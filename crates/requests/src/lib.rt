@@ -16,6 +16,7 @@ mod judge;
 pub mod lines;
 mod lookup;
 mod names;
+mod near;
 mod output;
 mod plan;
 mod put;

@@ -13,6 +13,7 @@ use crate::hrecv;
 use crate::hsend;
 use crate::judge;
 use crate::lookup;
+use crate::near;
 use crate::plan;
 use crate::put;
 use crate::rate;
@@ -53,7 +54,7 @@ pub fn answer(request: &[u8], records: &mut [u8], bits: &mut [u8], lent: &mut [u
 }
 
 // Behind the last kind.
-const NO_KIND: usize = 24;
+const NO_KIND: usize = 25;
 
 fn kind_of(name: &[u8]) -> usize {
     if same(name, b"crc") {
@@ -128,6 +129,9 @@ fn kind_of(name: &[u8]) -> usize {
     if same(name, b"tbback") {
         return 23;
     }
+    if same(name, b"near") {
+        return 24;
+    }
     NO_KIND
 }
 
@@ -177,6 +181,7 @@ fn put_form(kind: usize, form: &mut [u8]) -> usize
         21 => octets::put(b"tbrm D STREAMS E OUTLEN", form, 0),
         22 => octets::put(b"tbsend BITS E OUTLEN", form, 0),
         23 => octets::put(b"tbback D BITS OUTLEN", form, 0),
+        24 => octets::put(b"near D STREAMS OUTLEN", form, 0),
         _ => 0,
     }
 }
@@ -258,6 +263,7 @@ fn of_kind<'a>(
         21 => tbrm::answer(numbers, bits, lent),
         22 => tbsend::answer(numbers, bits, lent),
         23 => tbback::answer(numbers, bits, lent),
+        24 => near::answer(numbers, bits, lent),
         _ => Answer::Error(Fault::Request),
     }
 }

@@ -42,7 +42,8 @@ pub fn answer(shown: Shown, written: Written, lent: &[u8]) -> Answer {
     Answer::Error(Fault::Output)
 }
 
-fn is_kept(shown: Shown, written: Written, lent: &[u8]) -> bool {
+// Whether a call counts no octet that it was not lent, wrote none that cannot be shown, and left those behind its count.
+pub fn is_kept(shown: Shown, written: Written, lent: &[u8]) -> bool {
     let n = written.count;
     if n > most(written.number, lent) {
         return false;

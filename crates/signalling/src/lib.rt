@@ -1,4 +1,5 @@
-// The command `control`: a control word is sent, or what was sent of one is received.
+// The commands of control words. Here is `control`: a control word is sent, or what was sent of one is received.
+pub mod near;
 mod receive;
 mod refusal;
 mod send;

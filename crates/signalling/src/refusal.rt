@@ -1,4 +1,5 @@
 // A refusal of a control word: its one line on standard error, and the exit status.
+use bits::number::PARAMETER;
 use console::meanings;
 use console::page;
 use console::parts;
@@ -19,6 +20,22 @@ pub fn of_bits(number: u32, d: usize, received: usize) -> i32 {
     let a = begin(number, &mut line);
     let b = bits_hint(number, d, received, &mut line, a);
     end(number, &mut line, b)
+}
+
+// Of so many bits that are said to be the three streams of a word of d bits.
+pub fn of_streams(number: u32, d: usize, received: usize) -> i32 {
+    let mut line = io::buffer();
+    let n = put_streams(number, d, received, &mut line);
+    end(number, &mut line, n)
+}
+
+// Of streams, 8 is for how long they are, and not for what a word is sent with.
+fn put_streams(number: u32, d: usize, received: usize, line: &mut [u8]) -> usize {
+    if number == PARAMETER {
+        return put_count(d, received, line);
+    }
+    let n = begin(number, line);
+    bits_hint(number, d, received, line, n)
 }
 
 // Puts the number and what it means.
@@ -94,4 +111,26 @@ fn put_received(received: usize, line: &mut [u8], at: usize) -> usize {
         line,
         at,
     )
+}
+
+// What three streams of d bits have, and what came in.
+fn put_count(d: usize, received: usize, line: &mut [u8]) -> usize {
+    let n = page::form(
+        b"refused 8: these are not three streams of # bits; they take # octets, or with --text characters",
+        &[d, parts::times(3, d)],
+        line,
+        0,
+    );
+    put_came(received, line, n)
+}
+
+// Of streams that are too long no more is read than tells that they are.
+fn put_came(received: usize, line: &mut [u8], at: usize) -> usize {
+    if received == 0 {
+        return page::put(b", and none came in", line, at);
+    }
+    if received > 384 {
+        return page::put(b", and more than 384 came in", line, at);
+    }
+    page::form(b", and # came in", &[received], line, at)
 }

@@ -57,7 +57,8 @@ fn answer(text: bool, e: CodedBits, word: &[u8]) -> i32 {
     write(text, sent.count, &mut bits)
 }
 
-fn write(text: bool, count: usize, bits: &mut [u8]) -> i32 {
+// Writes the first so many bits, as octets or as a text.
+pub fn write(text: bool, count: usize, bits: &mut [u8]) -> i32 {
     if text {
         let n = files::as_text(bits, count);
         return files::write(octets::first(bits, n));

@@ -1,7 +1,8 @@
-//! Control words (document 02, CR 5): coded into three streams, matched to a count of radio bits, and taken back
-//! from them.
+//! Control words (document 02, CR 5 and CR 10): coded into three streams, matched to a count of radio bits, and taken
+//! back from them; and the word that is nearest to three received streams.
 
 mod buffer;
+mod nearest;
 mod streams;
 
 use std::ops::RangeInclusive;
@@ -61,6 +62,30 @@ pub fn back(d: u64, bits: &[u8], output: &mut [u8]) -> Result<usize, Number> {
     }
     lent.copy_from_slice(&sent_from(d, bits).ok_or(UNSENT)?);
     Ok(lent.len())
+}
+
+/// The word that is nearest to three received streams.
+#[derive(Debug, PartialEq, Eq)]
+pub struct Nearest {
+    /// How many bits of it are written.
+    pub count: usize,
+    /// In how many places its streams differ from those received.
+    pub differences: usize,
+}
+
+/// Finds the nearest word of D bits to three received streams, lying as they are coded: what is written, or 17, 8, 11,
+/// 12.
+pub fn nearest(d: u64, received: &[u8], output: &mut [u8]) -> Result<Nearest, Number> {
+    let d = length(d)?;
+    if received.len() != STREAMS * d {
+        return Err(PARAMETER);
+    }
+    let lent = lent(output, d)?;
+    single_bits(received)?;
+    let (differences, number) = nearest::nearest(d, received);
+    lent.copy_from_slice(&nearest::digits(d, number));
+    let count = lent.len();
+    Ok(Nearest { count, differences })
 }
 
 /// D, or 17.

@@ -10,6 +10,7 @@ pub mod keep;
 mod large;
 mod makers;
 pub mod masked;
+pub mod nearest;
 pub mod parity;
 pub mod profile;
 pub mod rate;
@@ -198,6 +199,7 @@ mod tests {
             ("tbrm", &[0, 8, 11, 12, 17]),
             ("tbsend", &[0, 8, 11, 12, 17]),
             ("tbback", &[0, 8, 11, 12, 13, 14, 17]),
+            ("near", &[0, 8, 11, 12, 17]),
         ] {
             let (numbers, others) = numbers_of(kind);
             let expected = expected.iter().copied().collect();

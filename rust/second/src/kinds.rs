@@ -12,6 +12,7 @@ mod hcheck;
 mod hrecv;
 mod hsend;
 mod lookup;
+mod near;
 pub mod parts;
 mod plan;
 mod profile;
@@ -55,6 +56,7 @@ pub const KINDS: &[Kind] = &[
     tbrm::KIND,
     tbsend::KIND,
     tbback::KIND,
+    near::KIND,
 ];
 
 /// One kind of request.

@@ -104,7 +104,7 @@ fn other_length(random: &mut Random) -> usize {
 }
 
 /// The same of a number: also one that words have again in fewer places.
-fn other_number(d: usize, random: &mut Random) -> u64 {
+pub fn other_number(d: usize, random: &mut Random) -> u64 {
     let near = other_length(random) as u64;
     let wrapped = d as u64 + (1 << random.pick(&[8, 16, 31, 32, 63]));
     random.pick(&[near, near, near, wrapped, u64::MAX, u64::MAX / 3])
@@ -119,7 +119,7 @@ fn wrapped_word(random: &mut Random) -> Vec<u8> {
     bits(65_536 + word_length(random), random)
 }
 
-fn is_word_length(d: usize) -> bool {
+pub fn is_word_length(d: usize) -> bool {
     (6..=128).contains(&d)
 }
 
@@ -163,12 +163,12 @@ fn other_count(e: usize, random: &mut Random) -> u64 {
 }
 
 /// An output that has just the room for so many bits, or more.
-fn enough(exactly: usize, random: &mut Random) -> usize {
+pub fn enough(exactly: usize, random: &mut Random) -> usize {
     random.pick(&[exactly, exactly, exactly + 1, exactly + 100, OUTPUT_ROOM])
 }
 
 /// An output that has one place too few, a third, none, or any of these counts.
-fn too_few(exactly: usize, random: &mut Random) -> usize {
+pub fn too_few(exactly: usize, random: &mut Random) -> usize {
     let any = random.below(exactly.max(1));
     let short = exactly.saturating_sub(1);
     random.pick(&[short, short, exactly / 3, 0, any])
@@ -302,7 +302,7 @@ fn lend_own_streams(matching: &mut Matching, random: &mut Random) {
 }
 
 /// How many octets are no three streams: one less, one more, a word too few, too many, or none.
-fn other_streams(d: usize, random: &mut Random) -> usize {
+pub fn other_streams(d: usize, random: &mut Random) -> usize {
     let all = 3 * d;
     let near = random.pick(&[all - 1, all + 1, all - 3, all + 3]);
     random.pick(&[near, near, near, d, 2 * d, 4 * d, 0])

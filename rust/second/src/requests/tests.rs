@@ -222,6 +222,10 @@ fn requests_about_control_words_are_read() {
         request(b"tbback 6 - 18"),
         read("tbback", &[number(6), octets(&[]), number(18)])
     );
+    assert_eq!(
+        request(b"near 007 019 140000"),
+        read("near", &[number(7), bits(), number(140_000)])
+    );
 }
 
 #[test]
@@ -240,6 +244,11 @@ fn words_about_control_words_are_looked_at_from_left_to_right() {
         (b"tbback 18446744073709551616 q q", Fault::Number),
         (b"tbback 18446744073709551615 x:0 q", Fault::Bits),
         (b"tbback 6 0 q", Fault::Number),
+        (b"near 18446744073709551616 q q", Fault::Number),
+        (b"near 18446744073709551615 q q", Fault::Bits),
+        (b"near 6 x:0 140001", Fault::Bits),
+        (b"near 6 0 140001", Fault::Long),
+        (b"near 6 0 q", Fault::Number),
     ] {
         let text = String::from_utf8_lossy(line);
         assert_eq!(request(line), Err(error), "{text}");
@@ -259,7 +268,7 @@ fn any_words(name: &str) -> Vec<String> {
 #[test]
 fn no_other_request_has_an_optional_word() {
     let has_none = |kind: &&Kind| kind.form.options.is_empty();
-    assert_eq!(KINDS.iter().filter(has_none).count(), 16);
+    assert_eq!(KINDS.iter().filter(has_none).count(), 17);
     for kind in KINDS.iter().filter(has_none) {
         let line = any_words(kind.name).join(" ");
         let read = |ending: &str| request([&line, ending].concat().as_bytes());
@@ -540,6 +549,7 @@ fn every_request_has_its_count_of_words() {
         ("tbrm", 4),
         ("tbsend", 3),
         ("tbback", 3),
+        ("near", 3),
     ] {
         for words in (0..12).filter(|&words| words != count) {
             let line = [name, &" 0".repeat(words)].concat();

@@ -1,9 +1,9 @@
--- `control::register::output` meets its contract.
+-- `control::inner::output` meets its contract.
 use mathlib.Core.Path.{refl}
 use Rattle.control.specs.Register.{output}
 use borrow.Author.Needs.{needs}
-use Rattle.control.proofs.register.output.Statement.{statement}
-use Rattle.control.proofs.register.output.Tie as tie
+use Rattle.control.proofs.inner.output.Statement.{statement}
+use Rattle.control.proofs.inner.output.Tie as tie
 
 cast-result : tie.Need-cast-result
 cast-result c = search needs

@@ -1,0 +1,10 @@
+pub mod Trellis
+pub mod Tolls
+pub mod Charges
+pub mod Best
+pub mod Loops
+pub mod Below
+pub mod Kept
+pub mod Answers
+pub mod Nearest
+pub mod Agreement
