@@ -127,16 +127,17 @@ module _ (h : ℕ) (l : List ℕ) where
 
   -- the two states that go the same ways, at one turn
   pub stepped-pair : (j x v v' : ℕ) (row : List ℕ) → h < 8 → j < 32 → x ≡ price h (2 * j)
-      → v ≡ lower (x + getD l j 0) (3 - x + getD l (32 + j) 0) → v' ≡ lower (3 - x + getD l j 0) (x + getD l (32 + j) 0)
+      → (a b : ℕ) → v ≡ lower a b → a ≡ x + getD l j 0 → b ≡ 3 - x + getD l (32 + j) 0
+      → (a' b' : ℕ) → v' ≡ lower a' b' → a' ≡ 3 - x + getD l j 0 → b' ≡ x + getD l (32 + j) 0
       → Stepped h l (2 * j) row → Stepped h l (2 * (j + 1)) (set (set row (2 * j) v) (2 * j + 1) v')
-  stepped-pair j x v v' row low m e q q' r =
+  stepped-pair j x v v' row low m e a b q z o a' b' q' z' o' r =
       let even-one : 3 - x ≡ price h (64 + 2 * j) = omega (arith, price-one h (2 * j) low (omega arith)) in
       let odd-zero : 3 - x ≡ price h (2 * j + 1) = omega (arith, price-odd h j low m) in
       let odd-one : x ≡ price h (64 + (2 * j + 1)) = omega (arith, price-one h (2 * j + 1) low (omega arith), price-odd h j low m) in
       let first = stepped-more (2 * j) row v r (omega arith)
-      (q ∙ ap₂ lower (way-first (2 * j) j x e (omega arith)) (way-first (64 + 2 * j) (32 + j) (3 - x) even-one (omega arith))) in
+      (q ∙ ap₂ lower (z ∙ way-first (2 * j) j x e (omega arith)) (o ∙ way-first (64 + 2 * j) (32 + j) (3 - x) even-one (omega arith))) in
       let second = stepped-more (2 * j + 1) (set row (2 * j) v) v' first (omega arith)
-      (q' ∙ ap₂ lower (way-first (2 * j + 1) j (3 - x) odd-zero (omega arith)) (way-first (64 + (2 * j + 1)) (32 + j) x odd-one (omega arith))) in
+      (q' ∙ ap₂ lower (z' ∙ way-first (2 * j + 1) j (3 - x) odd-zero (omega arith)) (o' ∙ way-first (64 + (2 * j + 1)) (32 + j) x odd-one (omega arith))) in
       let next : 2 * j + 1 + 1 ≡ 2 * (j + 1) = omega arith in
       subst (λ (n : ℕ). Stepped h l n (set (set row (2 * j) v) (2 * j + 1) v')) next second
 
@@ -214,13 +215,13 @@ module _ (D : ℕ) (T t : List ℕ) (ready : Ready D T t) (E : List ℕ) (low : 
       }
 
   -- one turn of the loop that fills them
-  pub row-turn : (n : ℕ) (l row : List ℕ) → n < D → Row (cost T) E n (D - n) l → Stepped (getD T (D - 1 - n) 0) l 64 row
+  pub row-turn : (n i : ℕ) (l row : List ℕ) → n < D → i ≡ D - 1 - n → Row (cost T) E n (D - n) l → Stepped (getD T i 0) l 64 row
       → Row (cost T) E (n + 1) (D - (n + 1)) row
-  row-turn n l row m r p =
+  row-turn n i l row m at r p =
       let k = D - 1 - n in
       let before : D - n ≡ suc k = omega arith in
       let then : D - (n + 1) ≡ k = omega arith in
-      rw (then, add-one n) (row-step n k l row (subst (λ (x : ℕ). Row (cost T) E n x l) before r) p)
+      rw (then, add-one n) (row-step n k l row (subst (λ (x : ℕ). Row (cost T) E n x l) before r) (subst (λ (x : ℕ). Stepped (getD T x 0) l 64 row) at p))
 
   pub filled-turn : (n : ℕ) (row a b : List ℕ) → n < D → Row (cost T) E (n + 1) (D - (n + 1)) row → Filled (cost T) E D n a
       → Placed 64 (λ k. getD row k 0) a ((n + 1) * 64) b → Filled (cost T) E D (n + 1) b

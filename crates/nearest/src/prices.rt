@@ -65,12 +65,20 @@ pub fn prices() -> [u16; 256]
     t
 }
 
+// Three bits as one number, the first one highest.
+fn joined(x: u8, y: u8, z: u8) -> u8
+    requires { ⌜ (x < 2) × (y < 2) × (z < 2) ⌝ }
+    ensures { λ r. ⌜ r ≡ x * 4 + y * 2 + z ⌝ }
+{
+    x * 4 + y * 2 + z
+}
+
 // The three bits heard at step k, in the order of the outputs.
 fn heard_at(d: usize, heard: &[u8], k: usize) -> u8
     requires { ⌜ (d + d + k < length (now heard)) × AreBits (now heard) ⌝ }
     ensures { λ x. ⌜ x ≡ heardAt d (now (heard .entry)) k ⌝ }
 {
-    heard[k] * 4 + heard[d + k] * 2 + heard[d + d + k]
+    joined(heard[k], heard[d + k], heard[d + d + k])
 }
 
 // What is heard at each step.

@@ -38,7 +38,7 @@ step-back-requires c κs =
     let a = c .before .before .before .before .before .before .before .before .before .args in
     let p = c .before .before .before .before .before .before .before .before .before .pre in
     let l = c .before .before .loop in
-    (p .0 .low (a .d - 1 - l .n), p .0 .table, row-low (a .d) (now (a .steps)) (now (a .prices)) (p .0) _ (p .1) _ _ _ (l .inv .1) (omega (arith, p .0 .most)))
+    (p .0 .low _, p .0 .table, row-low (a .d) (now (a .steps)) (now (a .prices)) (p .0) _ (p .1) _ _ _ (l .inv .1) (omega (arith, p .0 .most)))
 
 add-n : tie.Need-add-n Inv-loop μ-loop
 add-n c = search needs
@@ -57,7 +57,7 @@ loop-again c =
     let a = c .before .before .before .before .before .before .before .before .before .before .before .before .before .before .before .args in
     let p = c .before .before .before .before .before .before .before .before .before .before .before .before .before .before .before .pre in
     let l = c .before .before .before .before .before .before .before .before .loop in
-    let row = row-turn (a .d) (now (a .steps)) (now (a .prices)) (p .0) _ (p .1) (l .n) _ _ (search needs) (l .inv .1) (c .before .before .before .before .before .step-back .ensures) in
+    let row = row-turn (a .d) (now (a .steps)) (now (a .prices)) (p .0) _ (p .1) (l .n) _ _ _ (search needs) (omega arith) (l .inv .1) (c .before .before .before .before .before .step-back .ensures) in
     (search needs, row, filled-turn (a .d) (now (a .steps)) (now (a .prices)) (p .0) _ (p .1) (l .n) _ _ _ (search needs) row (l .inv .2) (c .before .before .put-row2 .ensures))
 
 same-length : tie.Need-same-length Inv-loop μ-loop

@@ -120,7 +120,7 @@ loop-again c =
     let a = c .before .before .before .before .before .args in
     let p = c .before .before .before .before .before .pre in
     let j = c .before .before .before .before .loop .j in
-    (search needs, stepped-pair (a .h) (a .t1) j _ _ _ _ (p .0) (search needs) (p .1 .at (a .h) j (p .0) (search needs)) (c .before .lower .ensures) (c .lower2 .ensures) (c .before .before .before .before .loop .inv .1))
+    (search needs, stepped-pair (a .h) (a .t1) j _ _ _ _ (p .0) (search needs) (p .1 .at (a .h) j (p .0) (search needs)) _ _ (c .before .lower .ensures) (omega arith) (omega arith) _ _ (c .lower2 .ensures) (omega arith) (omega arith) (c .before .before .before .before .loop .inv .1))
 
 returns : tie.Need-returns Inv-loop μ-loop
 returns c = stepped-all _ _ _ _ (c .before .loop .inv .0) (search needs) (c .before .loop .inv .1)
