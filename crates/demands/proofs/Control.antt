@@ -65,8 +65,18 @@ module _ (c : List ℕ) (bits : AreBits c) (six : 6 ≤ length c) where
 
 -- ---- what the calls write
 
-pub written : (n size : ℕ) (new out : List ℕ) (o : List ℕ) → n ≡ 0 → length new ≡ size → o ≡ whenDone n (new ++ drop size out) out → take size o ≡ new
+written : (n size : ℕ) (new out : List ℕ) (o : List ℕ) → n ≡ 0 → length new ≡ size → o ≡ whenDone n (new ++ drop size out) out → take size o ≡ new
 written n size new out o e l w = ap (take size) (w ∙ when-done n (new ++ drop size out) out e) ∙ take-at new (drop size out) size l
+
+-- a word that is coded: it was taken, and its streams stand in front
+pub coded-streams : (c : List ℕ) {mid : List ℕ} {q : Written} {m : List ℕ} → WordCoded c mid q m → q .number ≡ 0 → Word c × (take (q .count) m ≡ streams c)
+coded-streams c {mid} {q} {m} coded z =
+    let D = length c in
+    let done : codeWordNumber c (length mid) ≡ 0 = sym (coded .number) ∙ z in
+    let count : q .count ≡ D + D + D = coded .count ∙ when-done _ (D + D + D) 0 done in (
+      code-taken c (length mid) done .0,
+      ap (λ (n : ℕ). take n m) count ∙ written _ (D + D + D) (streams c) mid m done (length-streams c) (coded .output),
+    )
 
 -- ---- both in one call: sending a word is coding it and matching its streams
 
@@ -84,13 +94,9 @@ pub both-in-one : (c : List ℕ) (e : ℕ) {mid : List ℕ} {q : Written} {m out
     → StreamsMatched (length c) (take (q .count) m) e out r o → WordSent c e out r' o' → (r ≡ r') × (o ≡ o')
 both-in-one c e {mid} {q} {m} {out} {r} {r'} {o} {o'} coded z matched-them sent-it =
     let D = length c in
-    let done : codeWordNumber c (length mid) ≡ 0 = sym (coded .number) ∙ z in
-    let w = code-taken c (length mid) done .0 in
-    let count : q .count ≡ D + D + D = coded .count ∙ when-done _ (D + D + D) 0 done in
-    let is : take (q .count) m ≡ streams c =
-    ap (λ (n : ℕ). take n m) count ∙ written _ (D + D + D) (streams c) mid m done (length-streams c) (coded .output) in
-    let them : StreamsMatched D (streams c) e out r o = rw is at matched-them in
-    let same = same-number c w e (length out) in (
+    let word = coded-streams c coded z in
+    let them : StreamsMatched D (streams c) e out r o = rw (word .1) at matched-them in
+    let same = same-number c (word .0) e (length out) in (
       same-written r r' (them .number ∙ sym same ∙ sym (sent-it .number)) (them .count ∙ ap (λ (n : ℕ). whenDone n e 0) (sym same) ∙ sym (sent-it .count)),
       them .output ∙ ap (λ (n : ℕ). whenDone n (sent D (streams c) e ++ drop e out) out) (sym same) ∙ sym (sent-it .output),
     )

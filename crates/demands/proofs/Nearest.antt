@@ -2,7 +2,7 @@
 use mathlib.Core.Path.{_≡_, refl, sym, ap, ap₂, _∙_}
 use mathlib.Core.Bool.{true, cond}
 use mathlib.Core.List.{List, [], _∷_, _++_, map}
-use Prim.Native.Nat.{ℕ, _+_, _^_, _≤_, _<_}
+use Prim.Native.Nat.{ℕ, _^_, _≤_, _<_}
 use native.Mathlib.Omega.{arith}
 use borrow.Author.Tests.{eq-eqb, le-ltb, le-leb}
 use lib.Count.{ones, onesIn}
@@ -17,8 +17,8 @@ use Rattle.bits.proofs.Answers.{when-done}
 use Rattle.bits.proofs.Digits.{length-digits, digits-bits, digits-value, value-digits, value-lt}
 use Rattle.bits.proofs.Over.{bits-not-over}
 use Rattle.control.specs.Register.{output, stream, after, preset, streams}
-use Rattle.control.specs.Promises.{codeWordNumber, WordCoded}
-use Rattle.control.proofs.Answers.{Word, code-taken}
+use Rattle.control.specs.Promises.{WordCoded}
+use Rattle.control.proofs.Answers.{Word}
 use Rattle.control.proofs.Apart.{words-apart}
 use Rattle.control.proofs.Registers.{length-streams, streams-bits}
 use Rattle.nearest.specs.Nearest.{unlike, differences, away, nearest}
@@ -26,7 +26,7 @@ use Rattle.nearest.specs.Promises.{nearestWordNumber, WordFound}
 use Rattle.nearest.specs.declared.Closest.{Closest}
 use Rattle.nearest.proofs.Nearest.{nearest-lt, none-fewer, smallest-of-equals, nearest-is, differences-none, differences-same}
 use Rattle.demands.specs.Worked.{threeStreams, nearestOf, nearestWords, computed, due}
-use Rattle.demands.proofs.Control.{written}
+use Rattle.demands.proofs.Control.{coded-streams}
 
 module _ (D : ℕ) (heard : List ℕ) {out : List ℕ} {r : Closest} {o : List ℕ} (found : WordFound D heard out r o) (z : r .number ≡ 0) where
   done : nearestWordNumber D heard (length out) ≡ 0
@@ -98,13 +98,7 @@ module _ (c : List ℕ) (w : Word c) where
 
 pub unharmed-word : (c : List ℕ) {mid : List ℕ} {q : Written} {m out : List ℕ} {r : Closest} {o : List ℕ} → WordCoded c mid q m → q .number ≡ 0
     → length c ≤ length out → WordFound (length c) (take (q .count) m) out r o → (r .number ≡ 0) × (r .differences ≡ 0) × (take (r .count) o ≡ c)
-unharmed-word c {mid} {q} {m} coded z room found =
-    let D = length c in
-    let done : codeWordNumber c (length mid) ≡ 0 = sym (coded .number) ∙ z in
-    let count : q .count ≡ D + D + D = coded .count ∙ when-done (codeWordNumber c (length mid)) (D + D + D) 0 done in
-    let is : take (q .count) m ≡ streams c =
-    ap (λ (n : ℕ). take n m) count ∙ written (codeWordNumber c (length mid)) (D + D + D) (streams c) mid m done (length-streams c) (coded .output) in
-    unharmed c (code-taken c (length mid) done .0) room (rw is at found)
+unharmed-word c coded z room found = let word = coded-streams c coded z in unharmed c (word .0) room (rw (word .1) at found)
 
 -- ---- the worked numbers, in one table
 

@@ -1,5 +1,5 @@
 -- The cases marked P of document 01, "Small profile and worked numbers", and those of CR 1, in one table, in a second cases of our own for CR 3, in a third those
--- of CR 8, and in a fourth those of CR 5: what the definitions compute, and what is due.
+-- of CR 8, in a fourth those of CR 5, and in a fifth those of CR 10: what the definitions compute, and what is due.
 use mathlib.Core.Bool.{cond}
 use mathlib.Core.List.{List, [], _∷_, _++_}
 use Prim.Native.Nat.{ℕ, _+_, _-_, _^_}

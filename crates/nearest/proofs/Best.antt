@@ -17,7 +17,7 @@ use Rattle.bits.proofs.Ranges.{below-or, equal-or, all-of, all-fails, First, fi
 use Rattle.control.specs.Register.{preset, streams}
 use Rattle.nearest.specs.Nearest.{differences, away, isNearest, nearest}
 use Rattle.nearest.specs.steps.Trellis.{endAt, charge, cost, goalCost, goalWord, beats, Best}
-use Rattle.nearest.specs.steps.Rows.{EndAtMost, Heard, Ranked, Least}
+use Rattle.nearest.specs.steps.Rows.{AtMost, Heard, Ranked, Least}
 use Rattle.control.proofs.Registers.{preset-lt}
 use Rattle.nearest.proofs.Trellis.{length-walk, bits-walk, least-most, walk-attains, walk-first}
 use Rattle.nearest.proofs.Charges.{charge-own, charge-other, differences-code}
@@ -57,7 +57,7 @@ module _ (left : List ℕ) (goal : ℕ) (l : goal < length left) where
 
 module _ (f : ℕ → ℕ → ℕ) (D : ℕ) where
   -- the first goal
-  pub best-one : (row left : List ℕ) (first : ℕ) → first < 64 → EndAtMost 384 row → ((s : ℕ) → s < 64 → getD row s 0 ≤ goalCost f D s) → Ranked row 64 left
+  pub best-one : (row left : List ℕ) (first : ℕ) → first < 64 → AtMost 384 row → ((s : ℕ) → s < 64 → getD row s 0 ≤ goalCost f D s) → Ranked row 64 left
       → Best f D (set left first 65535) (goalCost f D first) (goalWord f D first)
   best-one row left first l low cheap r =
       let inside : first < length left = omega (arith, r .len) in

@@ -14,7 +14,7 @@ use Rattle.control.specs.Register.{stream, after, preset, streams}
 use Rattle.control.proofs.Registers.{length-stream, length-streams, comes-round, preset-lt}
 use Rattle.nearest.specs.Nearest.{unlike, differences}
 use Rattle.nearest.specs.steps.Trellis.{endAt, endOpen, charge, cost}
-use Rattle.nearest.specs.steps.Rows.{Heard, EndAtMost}
+use Rattle.nearest.specs.steps.Rows.{Heard, AtMost}
 use Rattle.nearest.proofs.Tolls.{cost-is}
 
 unlike-most : (x y : ℕ) → unlike x y ≤ 1
@@ -52,14 +52,14 @@ end-off : (goal s : ℕ) → s < 64 → (s ≡ goal → ⊥) → getD (endAt goa
 unfolding endAt
 end-off goal s l n = getD-set-other (replicate 64 500) goal s 0 0 n ∙ getD-replicate 64 s 500 0 l
 
-pub end-low : (goal : ℕ) → goal < 64 → EndAtMost 500 (endAt goal)
+pub end-low : (goal : ℕ) → goal < 64 → AtMost 500 (endAt goal)
 end-low goal g s l =
     equal-or s goal (λ e. let here = end-here goal g in rw e (omega (arith, here))) (λ n. let off = end-off goal s l n in omega (arith, off))
 
-pub low-goal : (goal : ℕ) (E : List ℕ) → goal < 64 → E ≡ endAt goal → EndAtMost 500 E
+pub low-goal : (goal : ℕ) (E : List ℕ) → goal < 64 → E ≡ endAt goal → AtMost 500 E
 low-goal goal E l e = rw e (end-low goal l)
 
-pub low-open : (E : List ℕ) (most : ℕ) → E ≡ endOpen → EndAtMost most E
+pub low-open : (E : List ℕ) (most : ℕ) → E ≡ endOpen → AtMost most E
 unfolding endOpen
 low-open E most e s l = let none = getD-replicate {A = ℕ} 64 s 0 0 l in rw e (omega (arith, none))
 

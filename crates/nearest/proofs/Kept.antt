@@ -1,6 +1,6 @@
 -- The better of two words is kept.
 use mathlib.Core.Path.{_≡_, refl, sym, ap, _∙_}
-use mathlib.Core.Bool.{Bool, true, false}
+use mathlib.Core.Bool.{Bool, true, false, true≢false}
 use mathlib.Core.List.{List, _++_}
 use Prim.Native.Nat.{ℕ, _/_, _%_, _≤_, _<_}
 use native.Mathlib.Omega.{arith}
@@ -11,7 +11,7 @@ use lib.Seq.{take-at, drop-at}
 use Rattle.bits.specs.Bits.{AreBits, digits, valueOf}
 use Rattle.nearest.specs.Nearest.{away, nearest}
 use Rattle.nearest.specs.steps.Trellis.{cost, goalCost, goalWord, beats, Best}
-use Rattle.nearest.specs.steps.Rows.{EndAtMost, Ranked, Least, Kept}
+use Rattle.nearest.specs.steps.Rows.{AtMost, Ranked, Least, Kept}
 use Rattle.nearest.proofs.Best.{length-goal, bits-goal, best-one, best-new, best-old, Given, best-word, best-count}
 
 -- ---- which is better
@@ -29,15 +29,12 @@ module _ (v : ℕ) (w : List ℕ) (v' : ℕ) (w' : List ℕ) where
   unfolding beats
   beats-same e = let h : v ≤ v' = omega arith in rw (le-ltb v' v h, eq-eqb v' v e)
 
-clash : (b : Bool) → b ≡ true → b ≡ false → ⊥
-clash b p q = let z : _≡_ {A = Bool} true false = sym p ∙ q in let y : _≡_ {A = ℕ} 0 1 = cc in omega arith
-
 module _ (D best : ℕ) (out : List ℕ) (v : ℕ) (word : List ℕ) where
   pub kept-new : (out' : List ℕ) → beats best (take D out) v (take D word) ≡ true → out' ≡ take D word ++ drop D out → Kept D best out v word v out'
-  kept-new out' t e = record { new = λ _. (refl, e); old = λ n. absurd (clash (beats best (take D out) v (take D word)) t n) }
+  kept-new out' t e = record { new = λ _. (refl, e); old = λ n. absurd (true≢false (sym t ∙ n)) }
 
   pub kept-old : beats best (take D out) v (take D word) ≡ false → Kept D best out v word best out
-  kept-old t = record { new = λ n. absurd (clash (beats best (take D out) v (take D word)) n t); old = λ _. (refl, refl) }
+  kept-old t = record { new = λ n. absurd (true≢false (sym n ∙ t)); old = λ _. (refl, refl) }
 
 -- ---- the loop over the goals
 
@@ -52,7 +49,7 @@ module _ (f : ℕ → ℕ → ℕ) (D : ℕ) where
   pub goal-bits : (goal : ℕ) (w : List ℕ) → w ≡ goalWord f D goal → AreBits w
   goal-bits goal w e = rw e (bits-goal f D goal)
 
-  pub best-front : (row left : List ℕ) (first v : ℕ) (out out' : List ℕ) → first < 64 → EndAtMost 384 row → ((s : ℕ) → s < 64 → getD row s 0 ≤ goalCost f D s)
+  pub best-front : (row left : List ℕ) (first v : ℕ) (out out' : List ℕ) → first < 64 → AtMost 384 row → ((s : ℕ) → s < 64 → getD row s 0 ≤ goalCost f D s)
       → Ranked row 64 left → v ≡ goalCost f D first → out' ≡ goalWord f D first ++ drop D out → Best f D (set left first 65535) v (take D out')
   best-front row left first v out out' l low cheap r e q = rw (e, goal-front first out out' q) (best-one f D row left first l low cheap r)
 

@@ -12,8 +12,8 @@ use lib.ListN.{length, getD, drop, set, replicate, length-set}
 use lib.Seq.{getD-set-same, getD-set-other, sets, sets-eq}
 use Rattle.bits.specs.Bits.{AreBits}
 use Rattle.bits.proofs.Ranges.{last-or}
-use Rattle.nearest.specs.steps.Trellis.{threeOf, heardAt, price, cost, way, lower, choice, least, walk, endAt, endOpen, goalCost, goalWord}
-use Rattle.nearest.specs.steps.Rows.{Placed, Evens, Prices, Heard, Ready, wayOf, Stepped, Low, EndAtMost, chosen, Row, Filled, Ranked, Least}
+use Rattle.nearest.specs.steps.Trellis.{heardAt, price, cost, way, lower, choice, least, walk, endAt, endOpen, goalCost, goalWord}
+use Rattle.nearest.specs.steps.Rows.{Placed, Made, Prices, Heard, Ready, wayOf, Stepped, Low, AtMost, chosen, Row, Filled, Least}
 use Rattle.nearest.proofs.Trellis.{lower-left, lower-right, lower-is, least-open, least-bound, length-walk}
 use Rattle.nearest.proofs.Charges.{end-low, low-open}
 use Rattle.nearest.proofs.Tolls.{price-one, price-odd, cost-most, heard-low}
@@ -24,6 +24,18 @@ stored : (n : ℕ) (f : ℕ → ℕ) (b : List ℕ) (v : ℕ) → ((k : ℕ) →
 stored n f b v h l e k m =
     last-or k n (omega arith) (λ o. getD-set-other b n k v 0 (λ q. omega arith) ∙ h k o)
     (λ q. ap (λ (x : ℕ). getD (set b n v) x 0) q ∙ getD-set-same b n v 0 l ∙ e ∙ ap f (sym q))
+
+-- ---- a list that is made from the front
+
+module _ (size : ℕ) (g : ℕ → ℕ) where
+  pub made-none : (t : List ℕ) → length t ≡ size → Made size g 0 t
+  made-none t e = record { len = e; at = λ k l. absurd (omega arith) }
+
+  pub made-more : (n : ℕ) (t : List ℕ) (v : ℕ) → Made size g n t → n < size → v ≡ g n → Made size g (n + 1) (set t n v)
+  made-more n t v h l e = record { len = length-set t n v ∙ h .len; at = stored n g t v (h .at) (omega (arith, h .len)) e }
+
+  pub made-all : (n m : ℕ) (t : List ℕ) → n ≤ m → m ≤ n → Made size g n t → Made size g m t
+  made-all n m t h l r = subst (λ (x : ℕ). Made size g x t) (le-antisymm h l) r
 
 -- ---- places written from `at` on
 
@@ -45,16 +57,6 @@ module _ (g : ℕ → ℕ) (a : List ℕ) (at : ℕ) where
   placed-all k n b h l r = subst (λ (x : ℕ). Placed x g a at b) (le-antisymm h l) r
 
 -- ---- the prices
-
-pub evens-none : (t : List ℕ) → length t ≡ 32 → Evens 0 t
-evens-none t e = record { len = e; at = λ j l. absurd (omega arith) }
-
-pub evens-more : (n : ℕ) (t : List ℕ) (v : ℕ) → Evens n t → n < 32 → v ≡ threeOf (2 * n) → Evens (n + 1) (set t n v)
-evens-more n t v h l e =
-    record { len = length-set t n v ∙ h .len; at = stored n (λ j. threeOf (2 * j)) t v (h .at) (omega (arith, h .len)) e }
-
-pub evens-all : (n : ℕ) (t : List ℕ) → n ≤ 32 → 32 ≤ n → Evens n t → Evens 32 t
-evens-all n t h l r = subst (λ (x : ℕ). Evens x t) (le-antisymm h l) r
 
 pub prices-none : (t : List ℕ) → length t ≡ 256 → Prices 0 t
 prices-none t e = record { len = e; at = λ h j l. absurd (omega arith) }
@@ -96,19 +98,9 @@ module _ (D : ℕ) (heard : List ℕ) where
 -- ---- one step back
 
 module _ (h : ℕ) (l : List ℕ) where
-  pub stepped-none : (row : List ℕ) → length row ≡ 64 → Stepped h l 0 row
-  stepped-none row e = record { len = e; at = λ s m. absurd (omega arith) }
-
-  stepped-more : (n : ℕ) (row : List ℕ) (v : ℕ) → Stepped h l n row → n < 64 → v ≡ lower (wayOf h l 0 n) (wayOf h l 0 (64 + n))
-      → Stepped h l (n + 1) (set row n v)
-  stepped-more n row v r m e =
-      record {
-        len = length-set row n v ∙ r .len;
-        at = stored n (λ s. lower (wayOf h l 0 s) (wayOf h l 0 (64 + s))) row v (r .at) (omega (arith, r .len)) e;
-      }
-
-  pub stepped-all : (j : ℕ) (row : List ℕ) → j ≤ 32 → 32 ≤ j → Stepped h l (2 * j) row → Stepped h l 64 row
-  stepped-all j row a b r = let e : 2 * j ≡ 64 = omega arith in subst (λ (x : ℕ). Stepped h l x row) e r
+  -- what is due at a state
+  abbrev stepAt : ℕ → ℕ
+  stepAt s = lower (wayOf h l 0 s) (wayOf h l 0 (64 + s))
 
   -- a way from what it costs and the place where it goes
   pub way-to : (from r p x : ℕ) → x ≡ price h r → r / 2 ≡ p → x + getD l (from + p) 0 ≡ wayOf h l from r
@@ -134,9 +126,9 @@ module _ (h : ℕ) (l : List ℕ) where
       let even-one : 3 - x ≡ price h (64 + 2 * j) = omega (arith, price-one h (2 * j) low (omega arith)) in
       let odd-zero : 3 - x ≡ price h (2 * j + 1) = omega (arith, price-odd h j low m) in
       let odd-one : x ≡ price h (64 + (2 * j + 1)) = omega (arith, price-one h (2 * j + 1) low (omega arith), price-odd h j low m) in
-      let first = stepped-more (2 * j) row v r (omega arith)
+      let first = made-more 64 stepAt (2 * j) row v r (omega arith)
       (q ∙ ap₂ lower (z ∙ way-first (2 * j) j x e (omega arith)) (o ∙ way-first (64 + 2 * j) (32 + j) (3 - x) even-one (omega arith))) in
-      let second = stepped-more (2 * j + 1) (set row (2 * j) v) v' first (omega arith)
+      let second = made-more 64 stepAt (2 * j + 1) (set row (2 * j) v) v' first (omega arith)
       (q' ∙ ap₂ lower (z' ∙ way-first (2 * j + 1) j (3 - x) odd-zero (omega arith)) (o' ∙ way-first (64 + (2 * j + 1)) (32 + j) x odd-one (omega arith))) in
       let next : 2 * j + 1 + 1 ≡ 2 * (j + 1) = omega arith in
       subst (λ (n : ℕ). Stepped h l n (set (set row (2 * j) v) (2 * j + 1) v')) next second
@@ -159,7 +151,7 @@ low-at l from s h m =
 
 -- ---- rows of the least costs
 
-module _ (D : ℕ) (T t : List ℕ) (ready : Ready D T t) (E : List ℕ) (low : EndAtMost 500 E) where
+module _ (D : ℕ) (T t : List ℕ) (ready : Ready D T t) (E : List ℕ) (low : AtMost 500 E) where
   bound : (n k s : ℕ) → s < 64 → least (cost T) E n k s ≤ 500 + 3 * n
   bound = least-bound (cost T) (cost-most T (ready .low)) E 500 low
 
@@ -296,23 +288,13 @@ unfolding goalCost
 open-goal T D goal row l r = let here = r .at goal l in let low = least-open (cost T) (endAt goal) D 0 goal l in omega (arith, here, low)
 
 -- and it is low, so that it has room beside its state
-pub open-low : (D : ℕ) (T t : List ℕ) → Ready D T t → (row : List ℕ) → Row (cost T) endOpen D 0 row → EndAtMost 384 row
+pub open-low : (D : ℕ) (T t : List ℕ) → Ready D T t → (row : List ℕ) → Row (cost T) endOpen D 0 row → AtMost 384 row
 open-low D T t h row r s l =
     omega (arith, h .most, r .at s l, least-bound (cost T) (cost-most T (h .low)) endOpen 0 (low-open endOpen 0 refl) D 0 s l)
 
--- ---- the goals in the order of what they cost with an open end
+-- ---- the least of a row
 
 module _ (row : List ℕ) where
-  pub ranked-none : (keys : List ℕ) → length keys ≡ 64 → Ranked row 0 keys
-  ranked-none keys e = record { len = e; at = λ s l. absurd (omega arith) }
-
-  pub ranked-more : (n : ℕ) (keys : List ℕ) (v : ℕ) → Ranked row n keys → n < 64 → v ≡ getD row n 0 * 64 + n → Ranked row (n + 1) (set keys n v)
-  ranked-more n keys v h l e =
-      record { len = length-set keys n v ∙ h .len; at = stored n (λ s. getD row s 0 * 64 + s) keys v (h .at) (omega (arith, h .len)) e }
-
-  pub ranked-all : (n : ℕ) (keys : List ℕ) → n ≤ 64 → 64 ≤ n → Ranked row n keys → Ranked row 64 keys
-  ranked-all n keys a b r = subst (λ (x : ℕ). Ranked row x keys) (le-antisymm a b) r
-
   pub least-first : Least row 1 (getD row 0 0)
   least-first = record { place = 0; inside = omega arith; is = refl; low = λ k l. let z : k ≡ 0 = omega arith in rw z (le-refl (getD row 0 0)) }
 

@@ -1,6 +1,6 @@
 -- What is asked of the nearest word holds of its definition.
 use mathlib.Core.Path.{_≡_, refl, sym, ap₂, _∙_}
-use mathlib.Core.Bool.{Bool, true, false}
+use mathlib.Core.Bool.{true, true≢false}
 use mathlib.Core.List.{List, [], _∷_}
 use Prim.Native.Nat.{ℕ, zero, suc, _^_, _≤_, _<_}
 use native.Mathlib.Nat.{le-refl}
@@ -96,14 +96,11 @@ module _ (D : ℕ) (heard : List ℕ) where
   unfolding isNearest
   smallest-of-equals k l e =
       below-or k (nearest D heard)
-      (λ m. absurd (clash (allBelow (2 ^ D) (λ j. leb (away D heard k) (away D heard j))) (all-of (2 ^ D) (λ j. leb (away D heard k) (away D heard j)) (λ j o. le-leb _ _ (as-low j o))) (found .none k m)))
+      (λ m. absurd (true≢false (sym (all-of (2 ^ D) (λ j. leb (away D heard k) (away D heard j)) (λ j o. le-leb _ _ (as-low j o))) ∙ found .none k m)))
       (λ h. h)
     where
       as-low : (j : ℕ) → j < 2 ^ D → away D heard k ≤ away D heard j
       as-low j o = omega (arith, none-fewer j o)
-
-      clash : (b : Bool) → b ≡ true → b ≡ false → ⊥
-      clash b p q = let z : _≡_ {A = Bool} true false = sym p ∙ q in let y : _≡_ {A = ℕ} 0 1 = cc in omega arith
 
   -- a word that no word is nearer than, and every word before it is further away than
   pub nearest-is : (n : ℕ) → n < 2 ^ D → allBelow (2 ^ D) (λ k. leb (away D heard n) (away D heard k)) ≡ true

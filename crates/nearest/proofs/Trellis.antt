@@ -10,7 +10,7 @@ use lib.Dec.{ltb, lit<}
 use lib.ListN.{length, getD, getD-replicate}
 use Rattle.bits.specs.Bits.{AreBits, readOn}
 use Rattle.nearest.specs.steps.Trellis.{endOpen, charge, way, lower, choice, least, walk}
-use Rattle.nearest.specs.steps.Rows.{EndAtMost}
+use Rattle.nearest.specs.steps.Rows.{AtMost}
 
 -- a number that is read on from a lower one is lower
 pub read-less : (p q : List ℕ) (x y : ℕ) → length p ≡ length q → AreBits p → AreBits q → x < y → readOn x p < readOn y q
@@ -163,7 +163,7 @@ least-open f E (suc n) k s h =
     (omega (arith, least-open f E n (suc k) ((1 * 64 + s) / 2) (omega arith)))
 
 -- a step adds three at most
-pub least-bound : (f : ℕ → ℕ → ℕ) → ((k r : ℕ) → f k r ≤ 3) → (E : List ℕ) (most : ℕ) → EndAtMost most E → (n k s : ℕ) → s < 64 → least f E n k s ≤ most + 3 * n
+pub least-bound : (f : ℕ → ℕ → ℕ) → ((k r : ℕ) → f k r ≤ 3) → (E : List ℕ) (most : ℕ) → AtMost most E → (n k s : ℕ) → s < 64 → least f E n k s ≤ most + 3 * n
 unfolding least way
 least-bound f h E most low zero k s l = omega (arith, low s l)
 least-bound f h E most low (suc n) k s l =

@@ -4,7 +4,7 @@ ghost use mathlib.Core.Path.{_≡_};
 ghost use Prim.Native.Nat.{_+_, _<_, _≤_};
 ghost use lib.ListN.{length, getD};
 ghost use Rattle.nearest.specs.steps.Trellis.{lower, cost, endAt, endOpen};
-ghost use Rattle.nearest.specs.steps.Rows.{Placed, Prices, Stepped, Low, EndAtMost, chosen, Row, Filled, Ranked, Least, Ready};
+ghost use Rattle.nearest.specs.steps.Rows.{Placed, Prices, Stepped, Low, AtMost, chosen, Row, Filled, Ranked, Least, Ready};
 
 // What an end elsewhere costs: more than any word, 384 at most.
 const FAR: u16 = 500;
@@ -76,7 +76,7 @@ pub fn fill(
     end: [u16; 64],
     costs: &mut [u16],
 ) -> [u16; 64]
-    requires { ⌜ Ready d (now steps) (now prices) × EndAtMost 500 end × (length (now costs) ≡ 8256) ⌝ }
+    requires { ⌜ Ready d (now steps) (now prices) × AtMost 500 end × (length (now costs) ≡ 8256) ⌝ }
     ensures { λ row. ⌜ Row (cost (now (steps .entry))) end d 0 row × Filled (cost (now (steps .entry))) end d d (now (costs .exit)) ⌝ }
 {
     let mut row = end;
@@ -106,7 +106,7 @@ pub fn chosen(prices: &[u16; 256], h: u8, costs: &[u16], from: usize, s: usize) 
 
 // The costs, each 64 times and with its state behind it: the least of them tells both.
 pub fn ranked(row: &[u16; 64]) -> [u16; 64]
-    requires { ⌜ EndAtMost 384 (now row) ⌝ }
+    requires { ⌜ AtMost 384 (now row) ⌝ }
     ensures { λ keys. ⌜ Ranked (now (row .entry)) 64 keys ⌝ }
 {
     let mut keys = [0u16; 64];

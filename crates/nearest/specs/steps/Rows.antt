@@ -13,10 +13,14 @@ pub record Placed (n : ℕ) (g : ℕ → ℕ) (a : List ℕ) (at : ℕ) (b : Lis
   pub inside : (k : ℕ) → k < n → getD b (at + k) 0 ≡ g k
   pub below : (p : ℕ) → p < at → getD b p 0 ≡ getD a p 0
 
+-- t has `size` places, and the first n hold what g says
+pub record Made (size : ℕ) (g : ℕ → ℕ) (n : ℕ) (t : List ℕ) : Type 0 where
+  pub len : length t ≡ size
+  pub at : (k : ℕ) → k < n → getD t k 0 ≡ g k
+
 -- the outputs of the even registers below 2n
-pub record Evens (n : ℕ) (t : List ℕ) : Type 0 where
-  pub len : length t ≡ 32
-  pub at : (j : ℕ) → j < n → getD t j 0 ≡ threeOf (2 * j)
+abbrev pub Evens : ℕ → List ℕ → Type 0
+Evens = Made 32 (λ j. threeOf (2 * j))
 
 -- what the even registers below 64 cost, 32 for each of the first n that can be heard; the other registers cost as much or the rest of three
 pub record Prices (n : ℕ) (t : List ℕ) : Type 0 where
@@ -40,26 +44,24 @@ unfoldable pub wayOf : ℕ → List ℕ → ℕ → ℕ → ℕ
 wayOf h l from r = price h r + getD l (from + r / 2) 0
 
 -- the costs of the states before n, one step back from the costs l
-pub record Stepped (h : ℕ) (l : List ℕ) (n : ℕ) (row : List ℕ) : Type 0 where
-  pub len : length row ≡ 64
-  pub at : (s : ℕ) → s < n → getD row s 0 ≡ lower (wayOf h l 0 s) (wayOf h l 0 (64 + s))
+abbrev pub Stepped : ℕ → List ℕ → ℕ → List ℕ → Type 0
+Stepped h l = Made 64 (λ s. lower (wayOf h l 0 s) (wayOf h l 0 (64 + s)))
 
 -- the costs from `from` on are low enough to add a step
 abbrev pub Low : List ℕ → ℕ → Type 0
 Low l from = (s : ℕ) → s < 64 → getD l (from + s) 0 ≤ 60000
 
--- an end costs so much at most
-abbrev pub EndAtMost : ℕ → List ℕ → Type 0
-EndAtMost most E = (s : ℕ) → s < 64 → getD E s 0 ≤ most
+-- every state costs so much at most
+abbrev pub AtMost : ℕ → List ℕ → Type 0
+AtMost most l = (s : ℕ) → s < 64 → getD l s 0 ≤ most
 
 -- the bit of the cheaper way, 0 where it costs no more
 unfoldable pub chosen : ℕ → List ℕ → ℕ → ℕ → ℕ
 chosen h l from s = cond (ltb (wayOf h l from (64 + s)) (wayOf h l from s)) 1 0
 
 -- the costs of all states where n steps are left, from step k on
-pub record Row (f : ℕ → ℕ → ℕ) (E : List ℕ) (n k : ℕ) (row : List ℕ) : Type 0 where
-  pub len : length row ≡ 64
-  pub at : (s : ℕ) → s < 64 → getD row s 0 ≡ least f E n k s
+abbrev pub Row : (ℕ → ℕ → ℕ) → List ℕ → ℕ → ℕ → List ℕ → Type 0
+Row f E n k = Made 64 (least f E n k) 64
 
 -- the rows where up to n of D steps are left, one behind the other, that of the end in front
 pub record Filled (f : ℕ → ℕ → ℕ) (E : List ℕ) (D n : ℕ) (costs : List ℕ) : Type 0 where
@@ -67,9 +69,8 @@ pub record Filled (f : ℕ → ℕ → ℕ) (E : List ℕ) (D n : ℕ) (costs : 
   pub at : (m k s : ℕ) → m + k ≡ D → m ≤ n → s < 64 → getD costs (m * 64 + s) 0 ≡ least f E m k s
 
 -- the costs of the states before n, each 64 times and with its state behind it, so that the least of them tells both
-pub record Ranked (row : List ℕ) (n : ℕ) (keys : List ℕ) : Type 0 where
-  pub len : length keys ≡ 64
-  pub at : (s : ℕ) → s < n → getD keys s 0 ≡ getD row s 0 * 64 + s
+abbrev pub Ranked : List ℕ → ℕ → List ℕ → Type 0
+Ranked row = Made 64 (λ s. getD row s 0 * 64 + s)
 
 -- v is the least of the first n
 pub record Least (row : List ℕ) (n v : ℕ) : Type 0 where

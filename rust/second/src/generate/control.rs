@@ -119,7 +119,7 @@ fn wrapped_word(random: &mut Random) -> Vec<u8> {
     bits(65_536 + word_length(random), random)
 }
 
-pub fn is_word_length(d: usize) -> bool {
+fn is_word_length(d: usize) -> bool {
     (6..=128).contains(&d)
 }
 
@@ -289,15 +289,15 @@ fn refused_matching(random: &mut Random) -> Words {
             _ => spoil(&mut matching.streams, 1, random),
         }
     }
-    lend_own_streams(&mut matching, random);
+    lend_own_streams(matching.d, &mut matching.streams, random);
     matching.words(random)
 }
 
 /// Gives a D that no word has streams of its own, so that nothing else is wrong with them.
-fn lend_own_streams(matching: &mut Matching, random: &mut Random) {
-    let own = usize::try_from(matching.d).unwrap_or(usize::MAX);
+pub fn lend_own_streams(d: u64, streams: &mut Vec<u8>, random: &mut Random) {
+    let own = usize::try_from(d).unwrap_or(usize::MAX);
     if own < 400 && !is_word_length(own) && random.one_in(2) {
-        matching.streams.resize(3 * own, 1);
+        streams.resize(3 * own, 1);
     }
 }
 

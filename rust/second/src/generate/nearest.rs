@@ -1,7 +1,7 @@
 //! Requests `near`: the streams of a word as they are, with a few bits turned or many, between two words, or of no
 //! word at all, and each refusal at its boundary.
 
-use super::control::{enough, is_word_length, other_number, other_streams, too_few};
+use super::control::{enough, lend_own_streams, other_number, other_streams, too_few};
 use super::crc::{bits, spoil};
 use super::makers::Makers;
 use super::write::{self, Words};
@@ -168,16 +168,8 @@ fn refused(random: &mut Random) -> Words {
             _ => spoil(&mut asked.received, 1, random),
         }
     }
-    lend_own_streams(&mut asked, random);
+    lend_own_streams(asked.d, &mut asked.received, random);
     asked.words(random)
-}
-
-/// Gives a D that no word has streams of its own, so that nothing else is wrong with them.
-fn lend_own_streams(asked: &mut Asked, random: &mut Random) {
-    let own = usize::try_from(asked.d).unwrap_or(usize::MAX);
-    if own < 400 && !is_word_length(own) && random.one_in(2) {
-        asked.received.resize(3 * own, 1);
-    }
 }
 
 #[cfg(test)]

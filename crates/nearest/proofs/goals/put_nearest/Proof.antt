@@ -75,7 +75,7 @@ loop-holds c =
     let g = c .before .before .before .before .before .first-goal in
     let row = open-row _ (a .d) _ _ (c .before .before .before .before .before .before .before .before .before .before .before .before .before .before .before .before .before .end-open .ensures) (c .before .before .before .before .before .before .before .before .before .before .before .before .before .before .before .fill .ensures .0) in
     let low = open-low (a .d) _ _ (ready (a .d) (now (a .heard)) _ _ (p .1) (p .3) (c .before .before .before .before .before .before .before .before .before .before .before .before .before .before .before .before .before .before .before .before .steps .ensures) (c .before .before .before .before .before .before .before .before .before .before .before .before .before .before .before .before .before .before .before .before .before .prices .ensures)) _ row in
-    let best = best-front (cost _) (a .d) _ _ _ (g .result) (now (a .out)) _ (omega arith) low (λ s m. open-goal _ (a .d) s _ m row) (c .before .before .before .before .before .before .before .before .before .before .before .before .ranked .ensures) (g .ensures .0) (g .ensures .1) in
+    let best = best-front (cost _) (a .d) (c .before .before .before .before .before .before .before .before .before .before .before .before .before .before .before .fill .result) _ _ (g .result) (now (a .out)) _ (omega arith) low (λ s m. open-goal _ (a .d) s _ m row) (c .before .before .before .before .before .before .before .before .before .before .before .before .ranked .ensures) (g .ensures .0) (g .ensures .1) in
     (search needs, refl, refl, best, c .least-of2 .ensures)
 
 cast-goal : tie.Need-cast-goal Inv-loop μ-loop

@@ -2,7 +2,7 @@
 use mathlib.Core.Path.{refl}
 use Prim.Native.Nat.{_-_, _≤_}
 use Rattle.nearest.specs.steps.Rows.{Evens}
-use Rattle.nearest.proofs.Loops.{evens-none, evens-more, evens-all}
+use Rattle.nearest.proofs.Loops.{made-none, made-more, made-all}
 use borrow.Author.Needs.{needs}
 use Rattle.nearest.proofs.prices.evens.Statement.{statement}
 use Rattle.nearest.proofs.prices.evens.Tie as tie
@@ -14,7 +14,7 @@ abbrev μ-loop : tie.MeasureT-loop
 μ-loop t₀ j₀ t j = 32 - j
 
 loop-holds : tie.Need-loop-holds Inv-loop μ-loop
-loop-holds c = (search needs, evens-none _ refl)
+loop-holds c = (search needs, made-none _ _ _ refl)
 
 mul-three : tie.Need-mul-three Inv-loop μ-loop
 mul-three c = search needs
@@ -35,10 +35,10 @@ loop-less : tie.Need-loop-less Inv-loop μ-loop
 loop-less c = search needs
 
 loop-again : tie.Need-loop-again Inv-loop μ-loop
-loop-again c = (search needs, evens-more _ _ _ (c .before .before .loop .inv .1) (search needs) (c .three .ensures))
+loop-again c = (search needs, made-more _ _ _ _ _ (c .before .before .loop .inv .1) (search needs) (c .three .ensures))
 
 returns : tie.Need-returns Inv-loop μ-loop
-returns c = evens-all _ _ (c .before .loop .inv .0) (search needs) (c .before .loop .inv .1)
+returns c = made-all _ _ _ _ _ (c .before .loop .inv .0) (search needs) (c .before .loop .inv .1)
 
 pub evens-spec : {M : Type 1} → statement M
 evens-spec =

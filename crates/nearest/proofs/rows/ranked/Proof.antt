@@ -3,7 +3,7 @@ use mathlib.Core.Path.{refl}
 use Prim.Native.Nat.{_-_, _≤_}
 use native.Mathlib.Omega.{arith}
 use Rattle.nearest.specs.steps.Rows.{Ranked}
-use Rattle.nearest.proofs.Loops.{ranked-none, ranked-more, ranked-all}
+use Rattle.nearest.proofs.Loops.{made-none, made-more, made-all}
 use borrow.Author.Needs.{needs}
 use Rattle.nearest.proofs.rows.ranked.Statement.{statement}
 use Rattle.nearest.proofs.rows.ranked.Tie as tie
@@ -15,7 +15,7 @@ abbrev μ-loop : tie.MeasureT-loop
 μ-loop row keys₀ s₀ keys s = 64 - s
 
 loop-holds : tie.Need-loop-holds Inv-loop μ-loop
-loop-holds c = (search needs, ranked-none _ _ refl)
+loop-holds c = (search needs, made-none _ _ _ refl)
 
 mul-keys : tie.Need-mul-keys Inv-loop μ-loop
 mul-keys c = search needs
@@ -51,10 +51,10 @@ loop-less : tie.Need-loop-less Inv-loop μ-loop
 loop-less c = search needs
 
 loop-again : tie.Need-loop-again Inv-loop μ-loop
-loop-again c = (search needs, ranked-more _ _ _ _ (c .before .before .loop .inv .1) (search needs) refl)
+loop-again c = (search needs, made-more _ _ _ _ _ (c .before .before .loop .inv .1) (search needs) refl)
 
 returns : tie.Need-returns Inv-loop μ-loop
-returns c = ranked-all _ _ _ (c .before .loop .inv .0) (search needs) (c .before .loop .inv .1)
+returns c = made-all _ _ _ _ _ (c .before .loop .inv .0) (search needs) (c .before .loop .inv .1)
 
 pub ranked-spec : {M : Type 1} → statement M
 ranked-spec =

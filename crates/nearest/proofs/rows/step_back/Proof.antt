@@ -6,7 +6,7 @@ use native.Mathlib.Omega.{arith}
 use lib.ListN.{getD}
 use Rattle.nearest.specs.steps.Rows.{Stepped}
 use Rattle.nearest.proofs.Tolls.{price-most}
-use Rattle.nearest.proofs.Loops.{stepped-none, stepped-pair, stepped-all}
+use Rattle.nearest.proofs.Loops.{made-none, made-all, stepped-pair}
 use borrow.Author.Needs.{needs}
 use Rattle.nearest.proofs.rows.step_back.Statement.{statement}
 use Rattle.nearest.proofs.rows.step_back.Tie as tie
@@ -21,7 +21,7 @@ mul-at : tie.Need-mul-at Inv-loop μ-loop
 mul-at c = search needs
 
 loop-holds : tie.Need-loop-holds Inv-loop μ-loop
-loop-holds c = (search needs, stepped-none _ _ _ refl)
+loop-holds c = (search needs, made-none _ _ _ refl)
 
 add-x : tie.Need-add-x Inv-loop μ-loop
 add-x c = search needs
@@ -123,7 +123,7 @@ loop-again c =
     (search needs, stepped-pair (a .h) (a .t1) j _ _ _ _ (p .0) (search needs) (p .1 .at (a .h) j (p .0) (search needs)) _ _ (c .before .lower .ensures) (omega arith) (omega arith) _ _ (c .lower2 .ensures) (omega arith) (omega arith) (c .before .before .before .before .loop .inv .1))
 
 returns : tie.Need-returns Inv-loop μ-loop
-returns c = stepped-all _ _ _ _ (c .before .loop .inv .0) (search needs) (c .before .loop .inv .1)
+returns c = made-all _ _ _ _ _ (omega (arith, c .before .loop .inv .0)) (omega arith) (c .before .loop .inv .1)
 
 pub step-back-spec : {M : Type 1} → statement M
 step-back-spec =
