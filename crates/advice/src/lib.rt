@@ -16,6 +16,7 @@ ghost use Rattle.advice.specs.Promises.{LeastRoom};
 ghost use Rattle.advice.specs.steps.Counting.{refusal, placesForAll};
 
 // The least allocation, all 0 with a refusal.
+#[repr(C)]
 pub struct Least {
     pub number: u32,
     // G.

@@ -14,6 +14,7 @@ pub enum Checker {
 }
 
 // A check's answer: its number, and whether the word checks, no with a refusal.
+#[repr(C)]
 pub struct Verdict {
     pub number: u32,
     pub checks: bool,

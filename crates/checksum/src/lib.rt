@@ -17,6 +17,7 @@ const GEN16: u32 = 0x1021;
 const GEN8: u32 = 0x9B;
 
 // A call's answer: its number, and the checksum, 0 with a refusal.
+#[repr(C)]
 pub struct Sum {
     pub number: u32,
     pub value: u32,

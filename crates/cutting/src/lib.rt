@@ -7,6 +7,7 @@ ghost use mathlib.Core.Path.{_≡_};
 ghost use Rattle.cutting.specs.Promises.{planned};
 
 // How a transport block is cut, all 0 with a refusal.
+#[repr(C)]
 pub struct Plan {
     pub number: u32,
     // B, the bits of the block and its checksum.

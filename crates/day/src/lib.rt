@@ -1,4 +1,4 @@
-// The command `day`: the engineer's whole day on the shelves of the repository, with a line for each step.
+// The command `day`: the engineer's whole day on the sample shelves, with a line for each step.
 use advice::Least;
 use bits::count::CodedBits;
 use bits::count::Terms;
@@ -31,14 +31,15 @@ const OTHER: u16 = 11;
 
 const THIRD: u16 = 3;
 
-pub fn run(words: Words) -> i32 {
+// `shelves` is the folder of the two shelves.
+pub fn run(words: Words, shelves: &[u8]) -> i32 {
     if words.help {
         return say(words);
     }
     if !argv::fits(b"", 0, b"-o\n") {
         return say(words);
     }
-    day()
+    day(shelves)
 }
 
 fn say(words: Words) -> i32 {
@@ -46,15 +47,15 @@ fn say(words: Words) -> i32 {
         words.help,
         b"usage: kuambyte day [-o FILE]
 
-Runs the whole day on shelves/private.shelf and shelves/public.shelf and writes a line for each step: looks a profile up, sends
+Runs the whole day on the sample shelves, private.shelf and public.shelf, and writes a line for each step: looks a profile up, sends
 a block, receives it, flips one bit and receives again, and asks as other tenants for private profiles.
 ",
     )
 }
 
-fn day() -> i32 {
+fn day(folder: &[u8]) -> i32 {
     let mut store = shelves::room();
-    let found = shelves::of_repository(&mut store);
+    let found = shelves::in_folder(folder, &mut store);
     if found.failed {
         return status::FAILED;
     }

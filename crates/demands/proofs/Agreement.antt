@@ -37,6 +37,9 @@ use Rattle.coding.proofs.Agreement.{send-agree, receive-agree}
 use Rattle.shelf.specs.Lookup.{lookupNumber}
 use Rattle.shelf.specs.Promises.{LookedUp, HostedSent, HostedReceived, HostedChecked}
 use Rattle.shelf.proofs.Agreement.{lookup-number-agree, lookup-agree, hosted-send-agree, hosted-receive-agree, hosted-check-agree}
+use Rattle.abi.specs.Promises.{LookedUpAt}
+use Rattle.abi.specs.declared.shelves.Place.{Place}
+use Rattle.abi.proofs.Agreement.{lookup-at-agree}
 use Rattle.keeping.specs.Promises.{RecordPut, RecordRemoved}
 use Rattle.keeping.proofs.Agreement.{put-agree, remove-agree}
 use Rattle.rules.specs.Promises.{ShelfRule, RecordRule}
@@ -171,3 +174,8 @@ of-shelf a b = shelf-rule-agree a b
 
 pub of-record : {R : List ℕ} {r r' : Wrong} → RecordRule R r → RecordRule R r' → r ≡ r'
 of-record a b = record-rule-agree a b
+
+-- ---- abi::kuambyte_lookup; every other function of abi has the promise of the call below
+
+pub kuambyte-lookup : {private public : List ℕ} {t p : ℕ} {r r' : Place} → LookedUpAt private public t p r → LookedUpAt private public t p r' → r ≡ r'
+kuambyte-lookup a b = lookup-at-agree a b

@@ -22,3 +22,4 @@ pub mod Kept
 pub mod Keeping
 pub mod Control
 pub mod Nearest
+pub mod Crossing

@@ -1,4 +1,6 @@
 // The command `help`, and what is said where a word names no command.
+use console::argv;
+use console::argv::Words;
 use console::files;
 use console::help;
 use console::page;
@@ -9,6 +11,27 @@ use text::octets;
 
 pub fn run() -> i32 {
     files::ended(overview(STDOUT_FILENO))
+}
+
+// Which version this is; include/kuambyte.h has the same.
+pub fn version(words: Words) -> i32 {
+    if words.help {
+        return say_version(words);
+    }
+    if !argv::fits(b"", 0, b"") {
+        return say_version(words);
+    }
+    files::ended(io::write_all(STDOUT_FILENO, b"kuambyte 0.1.0\n"))
+}
+
+fn say_version(words: Words) -> i32 {
+    help::say(
+        words.help,
+        b"usage: kuambyte --version
+
+Writes the name of the program and its version.
+",
+    )
 }
 
 pub fn too_many() -> i32 {
@@ -62,10 +85,11 @@ Shelves and records:
   kuambyte remove PRIVATE TENANT PROFILE > shelf               remove one
 
 Besides:
-  kuambyte day                run the whole day on the shelves of the repository
+  kuambyte day                run the whole day on the sample shelves
   kuambyte numbers            write what each answered number means
   kuambyte replay             read requests, one to a line, and write an answer to each
   kuambyte help [COMMAND]     write this help, or that of a command
+  kuambyte --version          write which version this is
 
 PRIVATE and PUBLIC are shelf files. Words in capitals may also be given by name and in any order, as --tenant 7. Where a result is written,
 -o FILE writes it to a file, which is never half written.

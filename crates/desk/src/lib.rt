@@ -19,15 +19,16 @@ use shelving::put;
 use shelving::remove;
 use signalling::near;
 
-// Runs the command that the words ask for, and answers the exit status. `help` and the name of a command is the command with --help.
-pub fn run() -> i32 {
+// Runs the command that the words ask for, and answers the exit status. `help` and the name of a command is the command with --help. `shelves` is the folder
+// of the shelves on which the day is run.
+pub fn run(shelves: &[u8]) -> i32 {
     let words = os::arg_count();
     if words < 2 {
         return help::missing();
     }
     let line = line_of(1);
     if !is_help(line) {
-        return command(line, 1, argv::all_words());
+        return command(line, 1, argv::all_words(), shelves);
     }
     if words == 2 {
         return help::run();
@@ -35,7 +36,7 @@ pub fn run() -> i32 {
     if words > 3 {
         return help::too_many();
     }
-    command(line_of(2), 2, argv::for_help())
+    command(line_of(2), 2, argv::for_help(), shelves)
 }
 
 // Which line of the list of commands a word is.
@@ -60,6 +61,7 @@ put
 remove
 control
 nearest
+--version
 ";
     list::find(names, &word[..n])
 }
@@ -69,7 +71,7 @@ fn is_help(line: usize) -> bool {
 }
 
 // An arm for each line of that list.
-fn command(line: usize, place: usize, words: Words) -> i32 {
+fn command(line: usize, place: usize, words: Words, shelves: &[u8]) -> i32 {
     match line {
         0 | 1 => help::run(),
         2 => send::run(words),
@@ -77,7 +79,7 @@ fn command(line: usize, place: usize, words: Words) -> i32 {
         4 => check::run(words),
         5 => lookup::run(words),
         6 => plan::run(words),
-        7 => day::run(words),
+        7 => day::run(words, shelves),
         8 => numbers::run(words),
         9 => replay::run(words),
         10 => listing::run(words),
@@ -88,6 +90,7 @@ fn command(line: usize, place: usize, words: Words) -> i32 {
         15 => remove::run(words),
         16 => signalling::run(words),
         17 => near::run(words),
+        18 => help::version(words),
         _ => help::unknown(place),
     }
 }

@@ -2,6 +2,8 @@
 use crate::asked::Parameters;
 use crate::refusal;
 use console::files;
+use console::files::Taken;
+use console::page;
 use text::octets;
 ghost use mathlib.Core.Path.{_≡_};
 ghost use lib.ListN.{length};
@@ -36,19 +38,26 @@ pub fn named(names: &[u8], store: &mut [u8]) -> Shelves {
     }
 }
 
-// Reads the shelves of the repository: ./kuambyte runs the command `day` in its folder.
-pub fn of_repository(store: &mut [u8]) -> Shelves {
+// Reads the shelves of a folder, on which the command `day` is run.
+pub fn in_folder(folder: &[u8], store: &mut [u8]) -> Shelves {
     let half = store.len() / 2;
-    let own = files::of_path(b"shelves/private.shelf", &mut store[0..half]);
+    let own = in_file(folder, b"/private.shelf", &mut store[0..half]);
     if own.failed {
         return failure();
     }
-    let all = files::of_path(b"shelves/public.shelf", &mut store[half..]);
+    let all = in_file(folder, b"/public.shelf", &mut store[half..]);
     Shelves {
         private: own.count,
         public: all.count,
         failed: all.failed,
     }
+}
+
+fn in_file(folder: &[u8], name: &[u8], store: &mut [u8]) -> Taken {
+    let mut path = io::buffer();
+    let at = page::put(folder, &mut path, 0);
+    let end = page::put(name, &mut path, at);
+    files::of_path(octets::first(&path, end), store)
 }
 
 fn failure() -> Shelves {

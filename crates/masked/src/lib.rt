@@ -16,6 +16,7 @@ ghost use Rattle.bits.specs.Bits.{AreBits, digits, valueOf};
 ghost use Rattle.masked.specs.Promises.{SumUnder, Appended, WordTested};
 
 // A test's answer: its number, and whether the word was appended under the mask, no with a refusal.
+#[repr(C)]
 pub struct Tested {
     pub number: u32,
     pub holds: bool,

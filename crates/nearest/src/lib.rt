@@ -9,6 +9,7 @@ use bits::number::DONE;
 ghost use Rattle.nearest.specs.Promises.{WordFound};
 
 // The answer: its number, how many octets were written, and in how many places the code of the word differs; 0 and 0 with a refusal.
+#[repr(C)]
 pub struct Closest {
     pub number: u32,
     pub count: usize,

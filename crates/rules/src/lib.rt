@@ -10,6 +10,7 @@ use shelf::inner::entry;
 ghost use Rattle.rules.specs.Promises.{ShelfRule, RecordRule};
 
 // The rule that a shelf breaks first, 0 for none; the entry, where one is concerned; and the octet where, both counted from 0.
+#[repr(C)]
 pub struct Broken {
     pub rule: usize,
     pub entry: usize,
@@ -17,6 +18,7 @@ pub struct Broken {
 }
 
 // The same of a record: the table, the row and the column, where they are concerned, and the octet where.
+#[repr(C)]
 pub struct Wrong {
     pub rule: usize,
     pub table: usize,

@@ -203,9 +203,8 @@ impl Given {
         }
     }
 
-    /// The alternative that the optional word of this name holds, for the tests of reading: none
-    /// decides an answer yet.
-    #[cfg(test)]
+    /// The alternative that the optional word of this name holds. None decides an answer here; what is
+    /// compared with this implementation may ask.
     pub fn alternative_of(&self, name: &str) -> &'static str {
         match self.option(name) {
             Value::Alternative(alternative) => alternative,

@@ -1,48 +1,13 @@
 //! The program `second`: answers requests, writes requests and shelves for comparing two implementations,
 //! makes shelves of their texts, those of the worked day among them, and rewrites what is stored in an old form.
 
-mod allocation;
-mod answer;
-mod checksum;
-mod control;
-mod draft;
-mod edition;
-mod errors;
-mod form;
-mod generate;
-mod hosted;
-mod keep;
-mod kinds;
-mod lines;
-mod masked;
-mod matrix;
-mod numbers;
-mod octets;
-mod output;
-mod parity;
-mod plan;
-mod random;
-mod rate;
-mod receive;
-mod record;
-mod replay;
-mod requests;
-mod rewrite;
-mod samples;
-mod send;
-mod shelf;
-mod shelves;
-mod tables;
-mod transfer;
-mod version;
-mod words;
-
 use std::io::{self, BufWriter, Write};
 use std::path::PathBuf;
 use std::process::ExitCode;
 
-use kinds::Kind;
-use shelf::Side;
+use second::kinds::Kind;
+use second::shelf::Side;
+use second::{generate, replay, rewrite, shelves, tables, words};
 
 const HELP: &str = "\
 second replay
