@@ -16,7 +16,7 @@ OWN := $(DATADIR)/kuambyte
 CRATE := $(DATADIR)/cargo/registry/kuambyte-$(VERSION)
 COMPLETIONS := $(DATADIR)/bash-completion/completions
 DOCS := $(DATADIR)/doc/kuambyte
-PAGES := docs/LIBRARY.md docs/PROMISES.md docs/REQUESTS.md docs/SHELVES.md
+PAGES := README.md docs/LIBRARY.md docs/PROMISES.md docs/REQUESTS.md docs/SHELVES.md
 STAGED := target/install
 
 all: program library

@@ -24,11 +24,6 @@ static uint8_t bits[ROOM];
 
 static const uint8_t one[1] = {0x01};
 
-static kuambyte_terms with(size_t layers, size_t order, size_t rv, size_t edition) {
-    kuambyte_terms terms = {layers, order, rv, edition};
-    return terms;
-}
-
 static kuambyte_written send(const uint8_t *record, size_t n, size_t octets, kuambyte_terms terms, size_t g) {
     static const uint8_t block[2049] = {0};
     return kuambyte_send(record, n, block, octets, terms, g, out, ROOM);
@@ -41,8 +36,8 @@ static void of_lookups(void) {
     kuambyte_place place = kuambyte_lookup(own, sizeof own, none, sizeof none, 2, 7);
     EXPECT(place.number == KUAMBYTE_NO_RECORD && place.shelf == KUAMBYTE_PUBLIC && place.start == 0 && place.octets == 0);
     EXPECT(kuambyte_lookup_number(own, sizeof own, none, sizeof none, 2, 7) == KUAMBYTE_NO_RECORD);
-    REFUSES(KUAMBYTE_NO_RECORD, kuambyte_hosted_send(own, sizeof own, none, sizeof none, 2, 7, one, 1, plain_terms, 128, out, ROOM));
-    REFUSES(KUAMBYTE_NO_RECORD, kuambyte_hosted_receive(own, sizeof own, none, sizeof none, 2, 7, 8, plain_terms, bits, 128, 0, out, ROOM));
+    REFUSES(KUAMBYTE_NO_RECORD, kuambyte_hosted_send(own, sizeof own, none, sizeof none, 2, 7, one, 1, PLAIN_TERMS, 128, out, ROOM));
+    REFUSES(KUAMBYTE_NO_RECORD, kuambyte_hosted_receive(own, sizeof own, none, sizeof none, 2, 7, 8, PLAIN_TERMS, bits, 128, 0, out, ROOM));
     EXPECT(kuambyte_hosted_check(own, sizeof own, none, sizeof none, 2, 7, 2, bits, 8, 0).number == KUAMBYTE_NO_RECORD);
 }
 
@@ -51,35 +46,35 @@ static void of_sending(void) {
     for (size_t i = 0; i < sizeof toy; i++) broken[i] = toy[i];
     /* Column kb is empty in row 0. */
     broken[15] = 255;
-    REFUSES(KUAMBYTE_PROFILE, send(toy, sizeof toy - 1, 1, plain_terms, 128));
-    REFUSES(KUAMBYTE_NO_STAIRCASE, send(broken, sizeof broken, 1, plain_terms, 128));
+    REFUSES(KUAMBYTE_PROFILE, send(toy, sizeof toy - 1, 1, PLAIN_TERMS, 128));
+    REFUSES(KUAMBYTE_NO_STAIRCASE, send(broken, sizeof broken, 1, PLAIN_TERMS, 128));
     EXPECT(kuambyte_rule_of_record(broken, sizeof broken).rule == KUAMBYTE_RECORD_TOP_EMPTY);
     REFUSES(KUAMBYTE_EDITION, send(toy, sizeof toy, 1, with(1, 2, 0, 3), 128));
-    REFUSES(KUAMBYTE_BLOCK_LENGTH, send(toy, sizeof toy, 0, plain_terms, 128));
-    REFUSES(KUAMBYTE_BLOCK_LENGTH, send(toy, sizeof toy, 2049, plain_terms, 128));
+    REFUSES(KUAMBYTE_BLOCK_LENGTH, send(toy, sizeof toy, 0, PLAIN_TERMS, 128));
+    REFUSES(KUAMBYTE_BLOCK_LENGTH, send(toy, sizeof toy, 2049, PLAIN_TERMS, 128));
     REFUSES(KUAMBYTE_REDUNDANCY_VERSION, send(toy, sizeof toy, 1, with(1, 2, 1, 1), 128));
     REFUSES(KUAMBYTE_REDUNDANCY_VERSION, send(two, sizeof two, 1, with(1, 2, 4, 1), 176));
     REFUSES(KUAMBYTE_PARAMETER, send(toy, sizeof toy, 1, with(5, 2, 0, 1), 128));
     REFUSES(KUAMBYTE_PARAMETER, send(toy, sizeof toy, 1, with(1, 3, 0, 1), 129));
     /* "G 129: 8", "14 octets: C 68, answer 9", "G 30: both answer 10". */
-    REFUSES(KUAMBYTE_PARAMETER, send(toy, sizeof toy, 1, plain_terms, 129));
-    REFUSES(KUAMBYTE_TOO_MANY_BLOCKS, send(toy, sizeof toy, 14, plain_terms, 512));
-    REFUSES(KUAMBYTE_TOO_FEW_PLACES, send(toy, sizeof toy, 1, plain_terms, 30));
-    TAKES(128, kuambyte_send(toy, sizeof toy, one, 1, plain_terms, 128, out, lent));
-    TAKES(128, kuambyte_hosted_send(own, sizeof own, none, sizeof none, 1, 7, one, 1, plain_terms, 128, out, lent));
+    REFUSES(KUAMBYTE_PARAMETER, send(toy, sizeof toy, 1, PLAIN_TERMS, 129));
+    REFUSES(KUAMBYTE_TOO_MANY_BLOCKS, send(toy, sizeof toy, 14, PLAIN_TERMS, 512));
+    REFUSES(KUAMBYTE_TOO_FEW_PLACES, send(toy, sizeof toy, 1, PLAIN_TERMS, 30));
+    TAKES(128, kuambyte_send(toy, sizeof toy, one, 1, PLAIN_TERMS, 128, out, lent));
+    TAKES(128, kuambyte_hosted_send(own, sizeof own, none, sizeof none, 1, 7, one, 1, PLAIN_TERMS, 128, out, lent));
     EXPECT(kuambyte_plan_block(toy, sizeof toy, 1, 14).number == KUAMBYTE_TOO_MANY_BLOCKS);
-    kuambyte_least least = kuambyte_least_bits(toy, sizeof toy, 14, plain_terms);
+    kuambyte_least least = kuambyte_least_bits(toy, sizeof toy, 14, PLAIN_TERMS);
     EXPECT(least.number == KUAMBYTE_TOO_MANY_BLOCKS && least.bits == 0 && least.blocks == 0 && least.last == 0);
 }
 
 static kuambyte_written receive(size_t a, size_t g, size_t lent) {
-    return kuambyte_receive(toy, sizeof toy, a, plain_terms, bits, g, KUAMBYTE_QUICK, out, lent);
+    return kuambyte_receive(toy, sizeof toy, a, PLAIN_TERMS, bits, g, KUAMBYTE_QUICK, out, lent);
 }
 
 static void of_receiving(void) {
-    kuambyte_send(toy, sizeof toy, one, 1, plain_terms, 128, bits, ROOM);
+    kuambyte_send(toy, sizeof toy, one, 1, PLAIN_TERMS, 128, bits, ROOM);
     TAKES(1, receive(8, 128, lent));
-    TAKES(1, kuambyte_hosted_receive(own, sizeof own, none, sizeof none, 1, 7, 8, plain_terms, bits, 128, KUAMBYTE_PLAIN, out, lent));
+    TAKES(1, kuambyte_hosted_receive(own, sizeof own, none, sizeof none, 1, 7, 8, PLAIN_TERMS, bits, 128, KUAMBYTE_PLAIN, out, lent));
     REFUSES(KUAMBYTE_BLOCK_LENGTH, receive(9, 128, ROOM));
     REFUSES(KUAMBYTE_BLOCK_LENGTH, receive(8 * 2049, 128, ROOM));
     /* "G 126: E 6, sending does it, receiving answers 13." */
@@ -152,9 +147,9 @@ static void of_nothing(void) {
     EXPECT(kuambyte_checksum_of_block_bits(NULL, 0).number == KUAMBYTE_DONE);
     EXPECT(kuambyte_rule_of_shelf(KUAMBYTE_PUBLIC, NULL, 0).rule == KUAMBYTE_SHELF_NO_COUNT);
     EXPECT(kuambyte_rule_of_record(NULL, 0).rule == KUAMBYTE_RECORD_NO_HEADER);
-    EXPECT(kuambyte_send(toy, sizeof toy, NULL, 0, plain_terms, 128, NULL, 0).number == KUAMBYTE_BLOCK_LENGTH);
-    EXPECT(kuambyte_send(toy, sizeof toy, one, 1, plain_terms, 128, NULL, 0).number == KUAMBYTE_SHORT_OUTPUT);
-    EXPECT(kuambyte_receive(toy, sizeof toy, 8, plain_terms, NULL, 0, KUAMBYTE_QUICK, NULL, 0).number == KUAMBYTE_TOO_FEW_PLACES);
+    EXPECT(kuambyte_send(toy, sizeof toy, NULL, 0, PLAIN_TERMS, 128, NULL, 0).number == KUAMBYTE_BLOCK_LENGTH);
+    EXPECT(kuambyte_send(toy, sizeof toy, one, 1, PLAIN_TERMS, 128, NULL, 0).number == KUAMBYTE_SHORT_OUTPUT);
+    EXPECT(kuambyte_receive(toy, sizeof toy, 8, PLAIN_TERMS, NULL, 0, KUAMBYTE_QUICK, NULL, 0).number == KUAMBYTE_TOO_FEW_PLACES);
     EXPECT(kuambyte_rate_match(NULL, 0, 1, 0, 0, NULL, 0).number == KUAMBYTE_DONE);
     EXPECT(kuambyte_append_under(16, 0, NULL, 0, NULL, 0).number == KUAMBYTE_SHORT_OUTPUT);
     EXPECT(!kuambyte_test_under(16, 0, NULL, 0).holds);

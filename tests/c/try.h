@@ -21,12 +21,21 @@ static inline int ended(const char *name) {
 
 /* The toy record of document 02, CR 3, and one of Type 2 with kb 1, m 3, x 1 and z 3. */
 static const uint8_t toy[26] = {0, 1, 0, 3, 0, 0, 0, 1, 0, 1, 0, 2, 0, 14, 0, 1, 0, 255, 1, 0, 0, 0, 255, 1, 255, 0};
-static const uint8_t two[34] = {0, 1, 0, 3, 0, 1, 0, 2, 0, 1, 0, 3, 0,   14, 0, 1,   0,
-                                255, 255, 2, 0, 0, 0, 255, 1, 1, 255, 0, 255, 255, 2, 255, 1, 0};
+static const uint8_t two[34] = {0, 1, 0, 3, 0, 1, 0, 2, 0, 1, 0, 3, 0, 14, 0, 1, 0, 255, 255, 2, 0, 0, 0, 255, 1, 1, 255, 0, 255, 255, 2, 255, 1, 0};
 /* The toy as profile 7 of tenant 1, and a shelf with nothing on it. */
 static const uint8_t own[36] = {0, 1, 0, 1, 0, 7, 0, 10, 0, 26, 0, 1, 0, 3, 0, 0, 0, 1, 0, 1, 0, 2, 0, 14, 0, 1, 0, 255, 1, 0, 0, 0, 255, 1, 255, 0};
 static const uint8_t none[2] = {0, 0};
-static const kuambyte_terms plain_terms = {1, 2, 0, 1};
+
+/* Terms by the names of their fields. */
+static inline kuambyte_terms with(size_t layers, size_t order, size_t rv, size_t edition) {
+    kuambyte_terms terms;
+    terms.layers = layers;
+    terms.order = order;
+    terms.rv = rv;
+    terms.edition = edition;
+    return terms;
+}
+#define PLAIN_TERMS with(1, 2, 0, 1)
 
 /* Room for whatever is written; every octet is A5 before a call. */
 #define ROOM 512

@@ -58,24 +58,48 @@ static void blocks(void) {
     static const uint8_t c0_130[17] = {0xCC, 0xC0, 0, 0, 0, 0x2D, 0xED, 0xED, 0xF3, 0x2D, 0xDE, 0xC0, 0x1E, 0xF3, 0x1E, 0xED, 0xC0};
     static const uint8_t rv_1[22] = {0x15, 0xEA, 0xFA, 0xC3, 0xF5, 0x95, 0xF5, 0x95, 0x15, 0xEA, 0,
                                      0,    0xE0, 0x7F, 0xEF, 0x29, 0xF5, 0x95, 0x15, 0xEA, 0x1A, 0xBC};
-    const kuambyte_terms version_1 = {1, 2, 1, 1};
     /* P10, CR 1 and CR 3. */
-    exchanged(toy, sizeof toy, one, plain_terms, 128, p10);
-    exchanged(toy, sizeof toy, c0, plain_terms, 130, c0_130);
-    exchanged(two, sizeof two, a5, version_1, 176, rv_1);
+    exchanged(toy, sizeof toy, one, PLAIN_TERMS, 128, p10);
+    exchanged(toy, sizeof toy, c0, PLAIN_TERMS, 130, c0_130);
+    exchanged(two, sizeof two, a5, with(1, 2, 1, 1), 176, rv_1);
     uint8_t back[1] = {0};
     clear();
-    kuambyte_written w = kuambyte_hosted_send(own, sizeof own, none, sizeof none, 1, 7, one, 1, plain_terms, 128, out, ROOM);
+    kuambyte_written w = kuambyte_hosted_send(own, sizeof own, none, sizeof none, 1, 7, one, 1, PLAIN_TERMS, 128, out, ROOM);
     EXPECT(w.number == KUAMBYTE_DONE && w.count == 128 && wrote_packed(p10, 128));
-    w = kuambyte_hosted_receive(own, sizeof own, none, sizeof none, 1, 7, 8, plain_terms, out, 128, KUAMBYTE_PLAIN, back, 1);
+    w = kuambyte_hosted_receive(own, sizeof own, none, sizeof none, 1, 7, 8, PLAIN_TERMS, out, 128, KUAMBYTE_PLAIN, back, 1);
     EXPECT(w.number == KUAMBYTE_DONE && w.count == 1 && back[0] == 0x01);
     /* "Toy, 13 octets: B 128, C 64, done with room enough." */
     kuambyte_plan plan = kuambyte_plan_block(toy, sizeof toy, 1, 13);
     EXPECT(plan.number == KUAMBYTE_DONE && plan.bits == 128 && plan.kmax == 2 && plan.blocks == 64 && plan.places == 2 && plan.z == 2);
     EXPECT(plan.index == 0 && plan.sums == 0);
     /* 16 blocks of 8 bits each: P10's G is the least with room. */
-    kuambyte_least least = kuambyte_least_bits(toy, sizeof toy, 1, plain_terms);
+    kuambyte_least least = kuambyte_least_bits(toy, sizeof toy, 1, PLAIN_TERMS);
     EXPECT(least.number == KUAMBYTE_DONE && least.bits == 128 && least.blocks == 16 && least.larger == 0 && least.first == 8 && least.last == 8);
+}
+
+/* kb 20, m 3 and the sizes 1 and 2, for a plan whose counts differ: 3 octets are cut into three blocks of 16 bits with 24 of checksum each, so z is 2. */
+static void cut_in_edition_2(void) {
+    static uint8_t record[18 + 2 * 69] = {0, 20, 0, 3, 0, 0, 0, 1, 0, 2, 0, 1, 0, 18, 0, 2, 0, 87};
+    for (size_t table = 0; table < 2; table++) {
+        uint8_t *at = record + 18 + 69 * table;
+        /* Column 20 has the shift 0 or 1 above and below and 0 between; the staircase leaves two places empty. */
+        at[20] = at[2 * 23 + 20] = (uint8_t)table;
+        at[22] = at[2 * 23 + 21] = 255;
+    }
+    kuambyte_plan plan = kuambyte_plan_block(record, sizeof record, 2, 3);
+    EXPECT(plan.number == KUAMBYTE_DONE && plan.bits == 48 && plan.kmax == 40 && plan.blocks == 3 && plan.places == 40);
+    EXPECT(plan.z == 2 && plan.index == 1 && plan.sums == 24);
+    /* N is 16 + 24 + 3 * 2 = 46 of each block. In symbol places of 4 bits that is 12, and of 3 blocks 36. */
+    kuambyte_least least = kuambyte_least_bits(record, sizeof record, 3, with(2, 2, 0, 2));
+    EXPECT(least.number == KUAMBYTE_DONE && least.bits == 144 && least.blocks == 3 && least.larger == 0 && least.first == 48 && least.last == 48);
+}
+
+/* kb 2, m 3 and z 3: one octet is cut into six blocks, N is 15 in the first two and 14 in the others, so of symbol places of 2 bits they take 8 or 7. */
+static void least_with_unequal_shares(void) {
+    static const uint8_t record[29] = {0, 2, 0, 3, 0, 0, 0, 1, 0, 1, 0, 3, 0, 14, 1, 2, 1, 0, 255, 255, 0, 0, 0, 0, 2, 255, 1, 255, 0};
+    kuambyte_least least = kuambyte_least_bits(record, sizeof record, 1, PLAIN_TERMS);
+    EXPECT(least.number == KUAMBYTE_DONE && least.bits == 2 * (2 * 8 + 4 * 7) && least.blocks == 6);
+    EXPECT(least.larger == 2 && least.first == 16 && least.last == 14);
 }
 
 static void shelves(void) {
@@ -103,6 +127,12 @@ static void shelves(void) {
     EXPECT(kuambyte_rule_of_record(toy, sizeof toy).rule == KUAMBYTE_RECORD_RIGHT);
     kuambyte_wrong wrong = kuambyte_rule_of_record(toy, sizeof toy - 1);
     EXPECT(wrong.rule == KUAMBYTE_RECORD_END && wrong.at <= sizeof toy - 1);
+    /* A shift of 9 in row 1, column 0, where z is 2. */
+    uint8_t shifted[sizeof toy];
+    for (size_t i = 0; i < sizeof toy; i++) shifted[i] = toy[i];
+    shifted[18] = 9;
+    wrong = kuambyte_rule_of_record(shifted, sizeof shifted);
+    EXPECT(wrong.rule == KUAMBYTE_RECORD_ENTRY && wrong.table == 0 && wrong.row == 1 && wrong.column == 0 && wrong.at == 18);
 }
 
 /* CR 5 and CR 10. */
@@ -128,6 +158,8 @@ int main(void) {
     checksums();
     code_words();
     blocks();
+    cut_in_edition_2();
+    least_with_unequal_shares();
     shelves();
     control_words();
     return ended("worked");

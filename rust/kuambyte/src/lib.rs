@@ -50,7 +50,7 @@
 #[cfg(not(all(target_arch = "x86_64", target_os = "linux")))]
 compile_error!(
     "kuambyte links libkuambyte.a, which is compiled for x86-64 Linux only: build with --target x86_64-unknown-linux-gnu \
-     (docs/LIBRARY.md of the project says what that needs on another machine)"
+     (README.md of the project says what that needs on another machine)"
 );
 
 pub mod checksum;

@@ -109,6 +109,12 @@ fn records() {
         RecordRule::TopEmpty
     );
     assert_eq!(broken_record(&TOY), None);
+    // A shift of 9 in row 1, column 0, where z is 2.
+    let mut shifted = TOY;
+    shifted[18] = 9;
+    let broken = broken_record(&shifted).unwrap();
+    assert_eq!((broken.rule, broken.table), (RecordRule::Entry, 0));
+    assert_eq!((broken.row, broken.column, broken.at), (1, 0, 18));
 }
 
 #[test]
@@ -157,8 +163,51 @@ fn the_least_bits_have_room_and_no_fewer_have() {
         (CodedBits(128), 16, 0)
     );
     assert_eq!((least.first, least.last), (CodedBits(8), CodedBits(8)));
+    let mut bits = [0; 126];
+    toy().send(&[1], TERMS, CodedBits(126), &mut bits).unwrap();
+    assert_eq!(received(1, &bits), Err(Refusal::NoRoom));
     let many = toy().least_bits(Octets(14), TERMS);
     assert_eq!(many, Err(Refusal::TooManyBlocks));
+}
+
+/// kb 20, m 3 and the sizes 1 and 2: 3 octets are cut into three blocks of 16 bits with 24 of
+/// checksum each, so z is 2.
+#[test]
+fn a_plan_in_edition_2() {
+    let mut record = vec![0, 20, 0, 3, 0, 0, 0, 1, 0, 2, 0, 1, 0, 18, 0, 2, 0, 87];
+    for shift in [0, 1] {
+        for staircase in [[shift, 0, 255], [0, 0, 0], [shift, 255, 0]] {
+            record.extend_from_slice(&[0; 20]);
+            record.extend_from_slice(&staircase);
+        }
+    }
+    let plan = Profile::new(&record)
+        .unwrap()
+        .plan(Edition::TWO, Octets(3))
+        .unwrap();
+    assert_eq!(
+        (plan.bits, plan.kmax, plan.blocks, plan.places),
+        (48, 40, 3, 40)
+    );
+    assert_eq!((plan.z, plan.index, plan.sums), (Size(2), 1, 24));
+}
+
+/// kb 2, m 3 and z 3: one octet is cut into six blocks, N is 15 in the first two and 14 in the others.
+#[test]
+fn the_least_bits_with_unequal_shares() {
+    let record = [
+        0, 2, 0, 3, 0, 0, 0, 1, 0, 1, 0, 3, 0, 14, 1, 2, 1, 0, 255, 255, 0, 0, 0, 0, 2, 255, 1,
+        255, 0,
+    ];
+    let least = Profile::new(&record)
+        .unwrap()
+        .least_bits(Octets(1), TERMS)
+        .unwrap();
+    assert_eq!(
+        (least.bits, least.blocks, least.larger),
+        (CodedBits(88), 6, 2)
+    );
+    assert_eq!((least.first, least.last), (CodedBits(16), CodedBits(14)));
 }
 
 #[test]

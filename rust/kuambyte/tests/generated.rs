@@ -83,7 +83,8 @@ fn said(name: &str, mut given: Given) -> Said {
     let given = &mut given;
     Said::Line(match name {
         "crc" | "crcoct" | "crcm" | "crcappend" | "crctest" => return summed(name, given),
-        "recv" | "hrecv" => return received(name, given),
+        "recv" => return received(given),
+        "hrecv" => return hosted_received(given),
         "crc24b" => Ok(summing(checksum::of_block_bits(&given.octets()))),
         "profile" => Ok(match Profile::new(&given.octets()) {
             Ok(_) => "0".to_string(),
@@ -262,30 +263,61 @@ impl Asked {
     }
 }
 
-/// The block is counted in octets, so an A that is no multiple of 8 cannot be asked for: 7, or what
-/// comes before it.
-fn received(name: &str, given: &mut Given) -> Said {
-    let hosted = name == "hrecv";
-    let asked = hosted.then(|| Asked::of(given));
-    let record = if hosted { Vec::new() } else { given.octets() };
-    let a = number(given);
-    let terms = terms(number(given), number(given), given);
-    let (bits, checker) = (given.octets(), checker(given));
-    if a % 8 != 0 {
-        return Said::Unaskable(&[1, 2, 3, 4, 5, 6, 19, 7]);
+/// A NL QM BITS OUTLEN rv=0 ed=1 by=quick|plain.
+struct Heard {
+    a: usize,
+    terms: Terms,
+    bits: Vec<u8>,
+    checker: Checker,
+    length: usize,
+}
+
+impl Heard {
+    fn of(given: &mut Given) -> Heard {
+        Heard {
+            a: number(given),
+            terms: terms(number(given), number(given), given),
+            bits: given.octets(),
+            checker: checker(given),
+            length: given.length(),
+        }
     }
-    let block = Octets(a / 8);
-    Said::Line(written(given.length(), hex, |out| match asked {
-        Some(asked) => {
-            let (tenant, profile) = (asked.tenant, asked.profile);
-            let shelves = asked.shelves();
-            wrote(shelves.receive_by(tenant, profile, block, terms, &bits, checker, out))
+
+    /// What a call says to the block in octets. An A that is no multiple of 8 cannot be asked for:
+    /// 7, or what comes before it.
+    fn said(&self, call: impl FnOnce(Octets, &mut [u8]) -> Result<usize, Number>) -> Said {
+        if self.a % 8 != 0 {
+            return Said::Unaskable(&[1, 2, 3, 4, 5, 6, 19, 7]);
         }
-        None => {
-            let profile = Profile::new(&record).map_err(number_for)?;
-            wrote(profile.receive_by(block, terms, &bits, checker, out))
-        }
-    }))
+        Said::Line(written(self.length, hex, |out| {
+            call(Octets(self.a / 8), out)
+        }))
+    }
+}
+
+fn received(given: &mut Given) -> Said {
+    let (record, heard) = (given.octets(), Heard::of(given));
+    heard.said(|block, out| {
+        let profile = Profile::new(&record).map_err(number_for)?;
+        wrote(profile.receive_by(block, heard.terms, &heard.bits, heard.checker, out))
+    })
+}
+
+fn hosted_received(given: &mut Given) -> Said {
+    let (asked, heard) = (Asked::of(given), Heard::of(given));
+    let (tenant, profile, terms) = (asked.tenant, asked.profile, heard.terms);
+    heard.said(|block, out| {
+        let shelves = asked.shelves();
+        wrote(shelves.receive_by(
+            tenant,
+            profile,
+            block,
+            terms,
+            &heard.bits,
+            heard.checker,
+            out,
+        ))
+    })
 }
 
 fn looked_up(given: &mut Given) -> String {
