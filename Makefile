@@ -16,7 +16,6 @@ OWN := $(DATADIR)/kuambyte
 CRATE := $(DATADIR)/cargo/registry/kuambyte-$(VERSION)
 COMPLETIONS := $(DATADIR)/bash-completion/completions
 DOCS := $(DATADIR)/doc/kuambyte
-PAGES := README.md docs/LIBRARY.md docs/PROMISES.md docs/REQUESTS.md docs/SHELVES.md
 STAGED := target/install
 
 all: program library
@@ -55,9 +54,10 @@ endif
 	$(INSTALL) -D -m 644 $(STAGED)/kuambyte.pc '$(DESTDIR)$(LIBDIR)/pkgconfig/kuambyte.pc'
 	$(INSTALL) -D -m 644 man/kuambyte.1 '$(DESTDIR)$(MANDIR)/man1/kuambyte.1'
 	$(INSTALL) -D -m 644 completion/kuambyte.bash '$(DESTDIR)$(COMPLETIONS)/kuambyte'
-	$(INSTALL) -d '$(DESTDIR)$(OWN)/shelves' '$(DESTDIR)$(DOCS)' '$(DESTDIR)$(CRATE)/src' '$(DESTDIR)$(CRATE)/examples'
+	$(INSTALL) -d '$(DESTDIR)$(OWN)/shelves' '$(DESTDIR)$(DOCS)/docs' '$(DESTDIR)$(CRATE)/src' '$(DESTDIR)$(CRATE)/examples'
 	$(INSTALL) -m 644 shelves/*.shelf shelves/*.txt '$(DESTDIR)$(OWN)/shelves'
-	$(INSTALL) -m 644 $(PAGES) '$(DESTDIR)$(DOCS)'
+	$(INSTALL) -m 644 README.md '$(DESTDIR)$(DOCS)'
+	$(INSTALL) -m 644 docs/*.md '$(DESTDIR)$(DOCS)/docs'
 	$(INSTALL) -m 644 $(STAGED)/Cargo.toml rust/kuambyte/build.rs '$(DESTDIR)$(CRATE)'
 	$(INSTALL) -m 644 rust/kuambyte/src/*.rs '$(DESTDIR)$(CRATE)/src'
 	$(INSTALL) -m 644 rust/kuambyte/examples/*.rs '$(DESTDIR)$(CRATE)/examples'

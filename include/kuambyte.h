@@ -10,9 +10,11 @@
  *   - A call that is done writes as many octets as its count says, at the start of `out`; those behind stay as they were. A refusal writes nothing, and its
  *     count and other results are 0 or false. What `out` held before decides nothing.
  *   - Bits stand one to an octet, 0 or 1. Places are bits or 2, the mark of filler. A transport block, a record and a shelf are packed octets.
+ *   - No number is cut: a tenant or a profile number over 65,535 is on no shelf, and is refused before anything else is tested. A negative one comes as such a
+ *     number.
  *   - Nothing is kept between calls, allocated or asked of the system: any thread may call at any time. No call takes more than 64 kilobytes of stack.
  *
- * Link with -lkuambyte (pkg-config --cflags --libs kuambyte). The library is for x86-64 Linux.
+ * Link with -lkuambyte behind the files that call it (cc -o member member.c $(pkg-config --cflags --libs kuambyte)). The library is for x86-64 Linux.
  */
 #ifndef KUAMBYTE_H
 #define KUAMBYTE_H
@@ -122,7 +124,7 @@ typedef struct kuambyte_plan {
 /* The least G with which every code block has room for all its coded bits. */
 typedef struct kuambyte_least {
     uint32_t number;
-    size_t bits;   /* G */
+    size_t g;      /* G, the bits to ask for */
     size_t blocks; /* C, the count of code blocks */
     size_t larger; /* how many of them, the first ones, have one symbol place more than the others */
     size_t first;  /* E of the first block */
@@ -136,31 +138,32 @@ typedef struct kuambyte_closest {
     size_t differences;
 } kuambyte_closest;
 
-/* Where the record lies that a tenant is given: so many octets of that shelf, from octet `start` on, counted from 0. */
-typedef struct kuambyte_place {
+/* The stretch of a shelf that is the record that a tenant is given: so many octets, from octet `start` on, counted from 0. */
+typedef struct kuambyte_stretch {
     uint32_t number;
     uint32_t shelf; /* KUAMBYTE_PRIVATE or KUAMBYTE_PUBLIC */
     size_t start;
     size_t octets;
-} kuambyte_place;
+} kuambyte_stretch;
 
-/* The rule that a shelf breaks first, 0 for none; the entry, where one is concerned; and the octet where, both counted from 0. */
+/* The rule that a shelf breaks first, and where; counted from 0. */
 typedef struct kuambyte_broken {
-    size_t rule; /* enum kuambyte_shelf_rule */
-    size_t entry;
-    size_t at;
+    size_t rule;  /* enum kuambyte_shelf_rule, 0 for none */
+    size_t entry; /* the entry, where the rule is about one, else 0 */
+    size_t at;    /* the octet where; where the end is wrong, it may be the length of the shelf, at which there is none */
 } kuambyte_broken;
 
-/* The same of a record: the table, its row and its column, where they are concerned, and the octet where. */
+/* The same of a record. */
 typedef struct kuambyte_wrong {
-    size_t rule; /* enum kuambyte_record_rule */
-    size_t table;
-    size_t row;
-    size_t column;
-    size_t at;
+    size_t rule;   /* enum kuambyte_record_rule, 0 for none */
+    size_t table;  /* the table, where the rule is about one, else 0 */
+    size_t row;    /* its row, likewise */
+    size_t column; /* its column, likewise */
+    size_t at;     /* as above */
 } kuambyte_wrong;
 
-/* What travels with every block that is sent or received; what was sent with some terms is received with the same. */
+/* What travels with every block that is sent or received; what was sent with some terms is received with the same. Nothing here has a default: an edition of 0
+   is refused with KUAMBYTE_EDITION. */
 typedef struct kuambyte_terms {
     size_t layers;  /* N_L, 1 to 4 */
     size_t order;   /* Q_m, the bits to a symbol: 2, 4 or 6 */
@@ -180,24 +183,25 @@ enum kuambyte_checker {
     KUAMBYTE_PLAIN = 1
 };
 
-/* The rules of a shelf, in the order in which they are tested. */
+/* The rules of a shelf, in the order in which they are tested. kuambyte_shelf_rule_words has the words as a text. */
 enum kuambyte_shelf_rule {
     KUAMBYTE_SHELF_RIGHT = 0,        /* none is broken: the shelf is well formed */
-    KUAMBYTE_SHELF_NO_COUNT = 1,     /* it has fewer than two octets */
-    KUAMBYTE_SHELF_COUNT = 2,        /* its count is over 64 */
-    KUAMBYTE_SHELF_ENTRIES_CUT = 3,  /* it ends before its entries do */
+    KUAMBYTE_SHELF_NO_COUNT = 1,     /* it begins with a count n of two octets */
+    KUAMBYTE_SHELF_COUNT = 2,        /* n is 0 to 64 */
+    KUAMBYTE_SHELF_ENTRIES_CUT = 3,  /* then come n entries of tenant, profile number, offset and length, two octets each */
     KUAMBYTE_SHELF_PAIRS = 4,        /* pairs of tenant and profile number strictly rise */
-    KUAMBYTE_SHELF_FIRST_OFFSET = 5, /* the first offset is 2 + 8n, n being the count */
+    KUAMBYTE_SHELF_FIRST_OFFSET = 5, /* the first offset is 2 + 8n */
     KUAMBYTE_SHELF_NEXT_OFFSET = 6,  /* each next offset is the end of the record before */
-    KUAMBYTE_SHELF_END = 7,          /* it ends with the last record, at 2 where there is none */
+    KUAMBYTE_SHELF_END = 7,          /* it ends with the last record, at 2 where n is 0 */
     KUAMBYTE_SHELF_SIZE = 8,         /* it has at most 65,535 octets */
     KUAMBYTE_SHELF_TENANT = 9        /* every tenant is 0 in a public shelf and 1 or more in a private one */
 };
 
-/* The rules of a record, in the order in which they are tested: 1 to 15 are those of KUAMBYTE_PROFILE, 16 to 24 those of KUAMBYTE_NO_STAIRCASE. */
+/* The rules of a record, in the order in which they are tested: 1 to 15 are those of KUAMBYTE_PROFILE, 16 to 24 those of KUAMBYTE_NO_STAIRCASE.
+   kuambyte_record_rule_words has the words as a text. */
 enum kuambyte_record_rule {
     KUAMBYTE_RECORD_RIGHT = 0,           /* none is broken */
-    KUAMBYTE_RECORD_NO_HEADER = 1,       /* it ends before its header of ten octets does */
+    KUAMBYTE_RECORD_NO_HEADER = 1,       /* it begins with kb, m, x, type and t, two octets each */
     KUAMBYTE_RECORD_KB = 2,              /* kb is 1 to 20 */
     KUAMBYTE_RECORD_M = 3,               /* m is 3 to 12 */
     KUAMBYTE_RECORD_X = 4,               /* x is 0 to 37 */
@@ -205,7 +209,7 @@ enum kuambyte_record_rule {
     KUAMBYTE_RECORD_TYPE = 6,            /* the type is 1 or 2 */
     KUAMBYTE_RECORD_TYPE_1_EXTENDED = 7, /* with Type 1 x is 0 */
     KUAMBYTE_RECORD_T = 8,               /* t is 1 to 3 */
-    KUAMBYTE_RECORD_PAIRS_CUT = 9,       /* it ends before its pairs of z and offset do */
+    KUAMBYTE_RECORD_PAIRS_CUT = 9,       /* then come t pairs of z and offset, two octets each */
     KUAMBYTE_RECORD_Z = 10,              /* z is 1 to 81 */
     KUAMBYTE_RECORD_Z_RISING = 11,       /* sizes strictly rise */
     KUAMBYTE_RECORD_FIRST_OFFSET = 12,   /* the first offset is 10 + 4t */
@@ -223,37 +227,89 @@ enum kuambyte_record_rule {
     KUAMBYTE_RECORD_LATER_COLUMN = 24    /* in extension row m+i later columns are empty */
 };
 
-/* ---- shelves; a shelf has at most 65,535 octets */
+/* What a rule of a shelf says, as it is said above; for any other number "no rule". */
+static inline const char *kuambyte_shelf_rule_words(size_t rule) {
+    switch (rule) {
+    case KUAMBYTE_SHELF_RIGHT: return "none is broken: the shelf is well formed";
+    case KUAMBYTE_SHELF_NO_COUNT: return "it begins with a count n of two octets";
+    case KUAMBYTE_SHELF_COUNT: return "n is 0 to 64";
+    case KUAMBYTE_SHELF_ENTRIES_CUT: return "then come n entries of tenant, profile number, offset and length, two octets each";
+    case KUAMBYTE_SHELF_PAIRS: return "pairs of tenant and profile number strictly rise";
+    case KUAMBYTE_SHELF_FIRST_OFFSET: return "the first offset is 2 + 8n";
+    case KUAMBYTE_SHELF_NEXT_OFFSET: return "each next offset is the end of the record before";
+    case KUAMBYTE_SHELF_END: return "it ends with the last record, at 2 where n is 0";
+    case KUAMBYTE_SHELF_SIZE: return "it has at most 65,535 octets";
+    case KUAMBYTE_SHELF_TENANT: return "every tenant is 0 in a public shelf and 1 or more in a private one";
+    default: return "no rule";
+    }
+}
+
+/* What a rule of a record says, as it is said above; for any other number "no rule". */
+static inline const char *kuambyte_record_rule_words(size_t rule) {
+    switch (rule) {
+    case KUAMBYTE_RECORD_RIGHT: return "none is broken";
+    case KUAMBYTE_RECORD_NO_HEADER: return "it begins with kb, m, x, type and t, two octets each";
+    case KUAMBYTE_RECORD_KB: return "kb is 1 to 20";
+    case KUAMBYTE_RECORD_M: return "m is 3 to 12";
+    case KUAMBYTE_RECORD_X: return "x is 0 to 37";
+    case KUAMBYTE_RECORD_ROWS: return "m + x is at most 40";
+    case KUAMBYTE_RECORD_TYPE: return "the type is 1 or 2";
+    case KUAMBYTE_RECORD_TYPE_1_EXTENDED: return "with Type 1 x is 0";
+    case KUAMBYTE_RECORD_T: return "t is 1 to 3";
+    case KUAMBYTE_RECORD_PAIRS_CUT: return "then come t pairs of z and offset, two octets each";
+    case KUAMBYTE_RECORD_Z: return "z is 1 to 81";
+    case KUAMBYTE_RECORD_Z_RISING: return "sizes strictly rise";
+    case KUAMBYTE_RECORD_FIRST_OFFSET: return "the first offset is 10 + 4t";
+    case KUAMBYTE_RECORD_NEXT_OFFSET: return "each next offset is the end of the table before";
+    case KUAMBYTE_RECORD_END: return "it ends with the last table";
+    case KUAMBYTE_RECORD_ENTRY: return "an entry is 255 for empty, else a shift below its z";
+    case KUAMBYTE_RECORD_TOP_EMPTY: return "column kb is filled in row 0";
+    case KUAMBYTE_RECORD_LAST_EMPTY: return "column kb is filled in row m-1";
+    case KUAMBYTE_RECORD_BETWEEN: return "column kb is filled in exactly one row between";
+    case KUAMBYTE_RECORD_OUTER: return "the two outer shifts of column kb are equal";
+    case KUAMBYTE_RECORD_MIDDLE: return "the middle shift of column kb is 0";
+    case KUAMBYTE_RECORD_COLUMN: return "column kb+j holds 0 in rows j-1 and j, and is empty elsewhere";
+    case KUAMBYTE_RECORD_ROW_EXTENDED: return "staircase rows are empty in all extension columns";
+    case KUAMBYTE_RECORD_OWN_COLUMN: return "extension row m+i holds 0 in column kb+m+i";
+    case KUAMBYTE_RECORD_LATER_COLUMN: return "in extension row m+i later columns are empty";
+    default: return "no rule";
+    }
+}
+
+/* ---- shelves: numbers of two octets, the high one first; at most 64 entries and 65,535 octets; {0, 0} is a shelf with nothing on it */
 
 /*
  * The record of a profile number that a tenant is given: its own from the private shelf, else the public one.
- * Reads both shelves. Writes nothing. Answers 1, 2, 3, 4; with a refusal the place is the empty one at the start of the public shelf.
+ * Reads both shelves. Writes nothing. Answers 4 for a number over 65,535, then 1, 2, 3, 4; with a refusal the stretch is the empty one at the start of the
+ * public shelf.
  */
-kuambyte_place kuambyte_lookup(const uint8_t *private_shelf, size_t private_octets, const uint8_t *public_shelf, size_t public_octets, uint16_t tenant,
-                               uint16_t profile);
+kuambyte_stretch kuambyte_lookup(const uint8_t *private_shelf, size_t private_octets, const uint8_t *public_shelf, size_t public_octets, size_t tenant,
+                                 size_t profile);
 
 /* The number of kuambyte_lookup alone. */
-uint32_t kuambyte_lookup_number(const uint8_t *private_shelf, size_t private_octets, const uint8_t *public_shelf, size_t public_octets, uint16_t tenant,
-                                uint16_t profile);
+uint32_t kuambyte_lookup_number(const uint8_t *private_shelf, size_t private_octets, const uint8_t *public_shelf, size_t public_octets, size_t tenant,
+                                size_t profile);
 
 /*
  * The private shelf with a record put on it for a tenant and a profile number, in the place of the one that has them.
- * Reads the shelf and the record. Writes the new shelf; 65,535 octets are always enough. Answers 1, 2, 5, 6, 26, 11.
+ * Reads the shelf and the record. Writes the new shelf; 65,535 octets are always enough. Answers 26 for a number over 65,535, then 1, 2, 5, 6, 26, 11.
  */
-kuambyte_written kuambyte_put_record(const uint8_t *private_shelf, size_t private_octets, uint16_t tenant, uint16_t profile, const uint8_t *record,
+kuambyte_written kuambyte_put_record(const uint8_t *private_shelf, size_t private_octets, size_t tenant, size_t profile, const uint8_t *record,
                                      size_t record_octets, uint8_t *out, size_t out_octets);
 
 /*
  * The private shelf without the record of a tenant and a profile number.
- * Reads the shelf. Writes the new shelf, which is shorter than the old one. Answers 1, 2, 4, 11.
+ * Reads the shelf. Writes the new shelf, which is shorter than the old one. Answers 4 for a number over 65,535, then 1, 2, 4, 11.
  */
-kuambyte_written kuambyte_remove_record(const uint8_t *private_shelf, size_t private_octets, uint16_t tenant, uint16_t profile, uint8_t *out,
+kuambyte_written kuambyte_remove_record(const uint8_t *private_shelf, size_t private_octets, size_t tenant, size_t profile, uint8_t *out,
                                         size_t out_octets);
 
-/* Which rule a shelf breaks first, and where: what to look at after 2 or 3. Reads the shelf, as KUAMBYTE_PRIVATE or KUAMBYTE_PUBLIC. Refuses nothing. */
-kuambyte_broken kuambyte_rule_of_shelf(uint32_t shelf, const uint8_t *octets, size_t count);
+/* Which rule a shelf breaks first, and where: what to look at after 2 or 3. Reads it as KUAMBYTE_PRIVATE or KUAMBYTE_PUBLIC. Refuses nothing. */
+kuambyte_broken kuambyte_rule_of_shelf(uint32_t which, const uint8_t *shelf, size_t shelf_octets);
 
-/* ---- records */
+/*
+ * ---- records: kb, m, x, type and t, then t pairs of a size z and an offset, two octets each, the high one first; then t tables of (m+x)*(kb+m+x) octets
+ */
 
 /* Whether a record is a profile that can be coded with. Reads the record. Answers 5, 6. */
 uint32_t kuambyte_judge(const uint8_t *record, size_t record_octets);
@@ -265,38 +321,38 @@ kuambyte_wrong kuambyte_rule_of_record(const uint8_t *record, size_t record_octe
 kuambyte_plan kuambyte_plan_block(const uint8_t *record, size_t record_octets, size_t edition, size_t block_octets);
 
 /*
- * The least G with which a transport block of so many octets can be received: what to ask for after 10 or 13.
+ * The least G with which a transport block of so many octets can be received: what to ask for before sending, and after 10 or 13.
  * Reads the record. Answers 5, 6, 19, 7, 16, 8 for layers or order, 9, and 13 where no G up to 65,536 has room.
  */
 kuambyte_least kuambyte_least_bits(const uint8_t *record, size_t record_octets, size_t block_octets, kuambyte_terms terms);
 
-/* ---- transport blocks: 1 to 2,048 octets, sent as G bits, 0 to 65,536 */
+/* ---- transport blocks: 1 to 2,048 octets, sent as G bits, a multiple of layers times order up to 65,536 */
 
 /*
- * Sends a transport block with a record as g bits.
+ * Sends a transport block with a record as g bits. With fewer than kuambyte_least_bits gives it is sent as well, but cannot be received: that answers 13.
  * Reads the record and the block. Writes g bits. Answers 5, 6, 19, 7, 16, 8, 9, 10, 11.
  */
 kuambyte_written kuambyte_send(const uint8_t *record, size_t record_octets, const uint8_t *block, size_t block_octets, kuambyte_terms terms, size_t g,
                                uint8_t *out, size_t out_octets);
 
 /*
- * Receives bits, whose count is G, as a transport block of a bits: 8 times its octets.
- * Reads the record and the bits. Writes a / 8 octets. Answers 5, 6, 19, 7, 16, 8, 9, 10, 11, 12, 13, 14.
+ * Receives bits, whose count is G, as a transport block of block_bits bits: 8 times its octets, 7 for any other number.
+ * Reads the record and the bits. Writes block_bits / 8 octets. Answers 5, 6, 19, 7, 16, 8, 9, 10, 11, 12, 13, 14.
  */
-kuambyte_written kuambyte_receive(const uint8_t *record, size_t record_octets, size_t a, kuambyte_terms terms, const uint8_t *bits, size_t bit_count,
+kuambyte_written kuambyte_receive(const uint8_t *record, size_t record_octets, size_t block_bits, kuambyte_terms terms, const uint8_t *bits, size_t bit_count,
                                   uint32_t checker, uint8_t *out, size_t out_octets);
 
-/* Looks the record up and sends: reads both shelves and the block, and answers 1, 2, 3, 4 as kuambyte_lookup, then what kuambyte_send answers and writes. */
-kuambyte_written kuambyte_hosted_send(const uint8_t *private_shelf, size_t private_octets, const uint8_t *public_shelf, size_t public_octets, uint16_t tenant,
-                                      uint16_t profile, const uint8_t *block, size_t block_octets, kuambyte_terms terms, size_t g, uint8_t *out,
+/* Looks the record up and sends: reads both shelves and the block, and answers 4, 1, 2, 3, 4 as kuambyte_lookup, then what kuambyte_send answers and writes. */
+kuambyte_written kuambyte_hosted_send(const uint8_t *private_shelf, size_t private_octets, const uint8_t *public_shelf, size_t public_octets, size_t tenant,
+                                      size_t profile, const uint8_t *block, size_t block_octets, kuambyte_terms terms, size_t g, uint8_t *out,
                                       size_t out_octets);
 
 /* Looks the record up and receives, the same way: then what kuambyte_receive answers and writes. */
 kuambyte_written kuambyte_hosted_receive(const uint8_t *private_shelf, size_t private_octets, const uint8_t *public_shelf, size_t public_octets,
-                                         uint16_t tenant, uint16_t profile, size_t a, kuambyte_terms terms, const uint8_t *bits, size_t bit_count,
+                                         size_t tenant, size_t profile, size_t block_bits, kuambyte_terms terms, const uint8_t *bits, size_t bit_count,
                                          uint32_t checker, uint8_t *out, size_t out_octets);
 
-/* ---- one code block; kb, m and x are the record's, z is one of its sizes */
+/* ---- one code block; kb, m, x and the type are the record's, z is one of its sizes */
 
 /*
  * Codes kb*z places, 0, 1 and the filler mark 2, which is read as 0 and stays marked.
@@ -319,9 +375,9 @@ kuambyte_verdict kuambyte_check_word(const uint8_t *record, size_t record_octets
 kuambyte_written kuambyte_row_sums(const uint8_t *record, size_t record_octets, size_t z, const uint8_t *word, size_t bit_count, uint8_t *out,
                                    size_t out_octets);
 
-/* Looks the record up and checks a word: 1, 2, 3, 4 as kuambyte_lookup, then what kuambyte_check_word answers. */
+/* Looks the record up and checks a word: 4, 1, 2, 3, 4 as kuambyte_lookup, then what kuambyte_check_word answers. */
 kuambyte_verdict kuambyte_hosted_check(const uint8_t *private_shelf, size_t private_octets, const uint8_t *public_shelf, size_t public_octets,
-                                       uint16_t tenant, uint16_t profile, size_t z, const uint8_t *word, size_t bit_count, uint32_t checker);
+                                       size_t tenant, size_t profile, size_t z, const uint8_t *word, size_t bit_count, uint32_t checker);
 
 /*
  * The e bits that are sent of a coded block, from the start that the type of its profile and a redundancy version give; marks may stand anywhere.
@@ -361,7 +417,11 @@ kuambyte_written kuambyte_match_streams(size_t d, const uint8_t *streams, size_t
 /* The e bits that a word is sent as. Reads the word, whose length is d. Writes e bits. Answers 17, 8 for e, 11, 12. */
 kuambyte_written kuambyte_send_word(const uint8_t *word, size_t bit_count, size_t e, uint8_t *out, size_t out_octets);
 
-/* The three streams that were sent as bits, whose count is E. Reads the bits. Writes 3d bits. Answers 17, 8 for E, 11, 12, 13 for E below 3d, 14. */
+/*
+ * The three streams that were sent as bits, whose count is E. Bits behind the first 3d are copies, and copies that differ are refused with 14: of bits that
+ * noise has touched, lend the first 3d.
+ * Reads the bits. Writes 3d bits. Answers 17, 8 for E, 11, 12, 13 for E below 3d, 14.
+ */
 kuambyte_written kuambyte_streams_of(size_t d, const uint8_t *bits, size_t bit_count, uint8_t *out, size_t out_octets);
 
 /*

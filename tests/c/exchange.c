@@ -2,21 +2,25 @@
 #include <kuambyte.h>
 #include <stdio.h>
 
-static size_t read_file(const char *name, uint8_t *octets, size_t room) {
+/* One octet more than a shelf has, so that one that is too long is refused and not cut. */
+enum { ROOM = 65536 };
+
+static size_t read_file(const char *name, uint8_t octets[ROOM]) {
     FILE *file = fopen(name, "rb");
-    size_t count = file ? fread(octets, 1, room, file) : 0;
-    if (file) fclose(file);
+    if (!file) return perror(name), 0;
+    size_t count = fread(octets, 1, ROOM, file);
+    fclose(file);
     return count;
 }
 
 static int refused(uint32_t number) { return printf("refused %u: %s\n", number, kuambyte_meaning(number)), (int)number; }
 
 int main(int words, char **word) {
-    static uint8_t own[65536], all[65536], bits[65536], block[5];
+    static uint8_t own[ROOM], all[ROOM], bits[65536], block[5];
     if (words != 3) return printf("usage: exchange PRIVATE PUBLIC\n"), 64;
-    size_t m = read_file(word[1], own, sizeof own), n = read_file(word[2], all, sizeof all);
+    size_t m = read_file(word[1], own), n = read_file(word[2], all);
 
-    kuambyte_place found = kuambyte_lookup(own, m, all, n, 7, 34);
+    kuambyte_stretch found = kuambyte_lookup(own, m, all, n, 7, 34);
     if (found.number != KUAMBYTE_DONE) return refused(found.number);
     const uint8_t *record = (found.shelf == KUAMBYTE_PRIVATE ? own : all) + found.start;
 
@@ -24,7 +28,7 @@ int main(int words, char **word) {
     kuambyte_least least = kuambyte_least_bits(record, found.octets, sizeof block, terms);
     if (least.number != KUAMBYTE_DONE) return refused(least.number);
 
-    kuambyte_written sent = kuambyte_send(record, found.octets, (const uint8_t *)"Hello", sizeof block, terms, least.bits, bits, sizeof bits);
+    kuambyte_written sent = kuambyte_send(record, found.octets, (const uint8_t *)"Hello", sizeof block, terms, least.g, bits, sizeof bits);
     if (sent.number != KUAMBYTE_DONE) return refused(sent.number);
     kuambyte_written got = kuambyte_receive(record, found.octets, 8 * sizeof block, terms, bits, sent.count, KUAMBYTE_QUICK, block, sizeof block);
     if (got.number != KUAMBYTE_DONE) return refused(got.number);

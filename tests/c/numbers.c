@@ -33,12 +33,35 @@ static void of_lookups(void) {
     EXPECT(kuambyte_lookup(own, sizeof own, none, sizeof none, 0, 7).number == KUAMBYTE_TENANT_ZERO);
     EXPECT(kuambyte_lookup(own, sizeof own - 1, none, sizeof none, 1, 7).number == KUAMBYTE_PRIVATE_SHELF);
     EXPECT(kuambyte_lookup(own, sizeof own, own, sizeof own, 1, 7).number == KUAMBYTE_PUBLIC_SHELF);
-    kuambyte_place place = kuambyte_lookup(own, sizeof own, none, sizeof none, 2, 7);
-    EXPECT(place.number == KUAMBYTE_NO_RECORD && place.shelf == KUAMBYTE_PUBLIC && place.start == 0 && place.octets == 0);
+    kuambyte_stretch found = kuambyte_lookup(own, sizeof own, none, sizeof none, 2, 7);
+    EXPECT(found.number == KUAMBYTE_NO_RECORD && found.shelf == KUAMBYTE_PUBLIC && found.start == 0 && found.octets == 0);
     EXPECT(kuambyte_lookup_number(own, sizeof own, none, sizeof none, 2, 7) == KUAMBYTE_NO_RECORD);
     REFUSES(KUAMBYTE_NO_RECORD, kuambyte_hosted_send(own, sizeof own, none, sizeof none, 2, 7, one, 1, PLAIN_TERMS, 128, out, ROOM));
     REFUSES(KUAMBYTE_NO_RECORD, kuambyte_hosted_receive(own, sizeof own, none, sizeof none, 2, 7, 8, PLAIN_TERMS, bits, 128, 0, out, ROOM));
     EXPECT(kuambyte_hosted_check(own, sizeof own, none, sizeof none, 2, 7, 2, bits, 8, 0).number == KUAMBYTE_NO_RECORD);
+}
+
+/* A larger number is not cut to two octets: 65,537 is not tenant 1, to whom the record belongs, and 65,543 is not profile 7. */
+static void of_large_numbers(void) {
+    uint8_t everybody[sizeof own];
+    for (size_t i = 0; i < sizeof own; i++) everybody[i] = own[i];
+    everybody[3] = 0;
+    const struct { size_t tenant, profile; } asked[4] = {{65537, 7}, {1, 65543}, {(size_t)-1, 7}, {((size_t)1 << 32) + 1, 7}};
+    for (int i = 0; i < 4; i++) {
+        size_t tenant = asked[i].tenant, profile = asked[i].profile;
+        kuambyte_stretch found = kuambyte_lookup(own, sizeof own, everybody, sizeof everybody, tenant, profile);
+        EXPECT(found.number == KUAMBYTE_NO_RECORD && found.shelf == KUAMBYTE_PUBLIC && found.start == 0 && found.octets == 0);
+        EXPECT(kuambyte_lookup_number(own, sizeof own, none, sizeof none, tenant, profile) == KUAMBYTE_NO_RECORD);
+        REFUSES(KUAMBYTE_NO_RECORD, kuambyte_hosted_send(own, sizeof own, none, sizeof none, tenant, profile, one, 1, PLAIN_TERMS, 128, out, ROOM));
+        REFUSES(KUAMBYTE_NO_RECORD, kuambyte_hosted_receive(own, sizeof own, none, sizeof none, tenant, profile, 8, PLAIN_TERMS, bits, 128, 0, out, ROOM));
+        EXPECT(kuambyte_hosted_check(own, sizeof own, none, sizeof none, tenant, profile, 2, bits, 8, 0).number == KUAMBYTE_NO_RECORD);
+        REFUSES(KUAMBYTE_FULL_SHELF, kuambyte_put_record(none, sizeof none, tenant, profile, toy, sizeof toy, out, ROOM));
+        REFUSES(KUAMBYTE_NO_RECORD, kuambyte_remove_record(own, sizeof own, tenant, profile, out, ROOM));
+    }
+    EXPECT(kuambyte_lookup_number(own, sizeof own, none, sizeof none, 65535, 65535) == KUAMBYTE_NO_RECORD);
+    clear();
+    EXPECT(kuambyte_put_record(none, sizeof none, 65535, 65535, toy, sizeof toy, out, ROOM).number == KUAMBYTE_DONE);
+    EXPECT(kuambyte_lookup_number(out, sizeof own, none, sizeof none, 65535, 65535) == KUAMBYTE_DONE);
 }
 
 static void of_sending(void) {
@@ -64,7 +87,7 @@ static void of_sending(void) {
     TAKES(128, kuambyte_hosted_send(own, sizeof own, none, sizeof none, 1, 7, one, 1, PLAIN_TERMS, 128, out, lent));
     EXPECT(kuambyte_plan_block(toy, sizeof toy, 1, 14).number == KUAMBYTE_TOO_MANY_BLOCKS);
     kuambyte_least least = kuambyte_least_bits(toy, sizeof toy, 14, PLAIN_TERMS);
-    EXPECT(least.number == KUAMBYTE_TOO_MANY_BLOCKS && least.bits == 0 && least.blocks == 0 && least.last == 0);
+    EXPECT(least.number == KUAMBYTE_TOO_MANY_BLOCKS && least.g == 0 && least.blocks == 0 && least.last == 0);
 }
 
 static kuambyte_written receive(size_t a, size_t g, size_t lent) {
@@ -163,6 +186,8 @@ static void of_nothing(void) {
 static void of_words(void) {
     const char *words = kuambyte_meaning(KUAMBYTE_DONE), *others = kuambyte_meaning(15);
     EXPECT(words[0] == 'd' && others[0] == 'n');
+    EXPECT(kuambyte_shelf_rule_words(KUAMBYTE_SHELF_PAIRS)[0] == 'p' && kuambyte_shelf_rule_words(10)[0] == 'n');
+    EXPECT(kuambyte_record_rule_words(KUAMBYTE_RECORD_KB)[0] == 'k' && kuambyte_record_rule_words(25)[0] == 'n');
     for (uint32_t n = 0; n <= 30; n++) {
         bool answered = n <= 14 || n == 16 || n == 17 || n == 19 || n == 26;
         EXPECT((kuambyte_meaning(n) != others) == answered);
@@ -171,6 +196,7 @@ static void of_words(void) {
 
 int main(void) {
     of_lookups();
+    of_large_numbers();
     of_sending();
     of_receiving();
     of_parts();

@@ -74,7 +74,7 @@ static void blocks(void) {
     EXPECT(plan.index == 0 && plan.sums == 0);
     /* 16 blocks of 8 bits each: P10's G is the least with room. */
     kuambyte_least least = kuambyte_least_bits(toy, sizeof toy, 1, PLAIN_TERMS);
-    EXPECT(least.number == KUAMBYTE_DONE && least.bits == 128 && least.blocks == 16 && least.larger == 0 && least.first == 8 && least.last == 8);
+    EXPECT(least.number == KUAMBYTE_DONE && least.g == 128 && least.blocks == 16 && least.larger == 0 && least.first == 8 && least.last == 8);
 }
 
 /* kb 20, m 3 and the sizes 1 and 2, for a plan whose counts differ: 3 octets are cut into three blocks of 16 bits with 24 of checksum each, so z is 2. */
@@ -91,27 +91,27 @@ static void cut_in_edition_2(void) {
     EXPECT(plan.z == 2 && plan.index == 1 && plan.sums == 24);
     /* N is 16 + 24 + 3 * 2 = 46 of each block. In symbol places of 4 bits that is 12, and of 3 blocks 36. */
     kuambyte_least least = kuambyte_least_bits(record, sizeof record, 3, with(2, 2, 0, 2));
-    EXPECT(least.number == KUAMBYTE_DONE && least.bits == 144 && least.blocks == 3 && least.larger == 0 && least.first == 48 && least.last == 48);
+    EXPECT(least.number == KUAMBYTE_DONE && least.g == 144 && least.blocks == 3 && least.larger == 0 && least.first == 48 && least.last == 48);
 }
 
 /* kb 2, m 3 and z 3: one octet is cut into six blocks, N is 15 in the first two and 14 in the others, so of symbol places of 2 bits they take 8 or 7. */
 static void least_with_unequal_shares(void) {
     static const uint8_t record[29] = {0, 2, 0, 3, 0, 0, 0, 1, 0, 1, 0, 3, 0, 14, 1, 2, 1, 0, 255, 255, 0, 0, 0, 0, 2, 255, 1, 255, 0};
     kuambyte_least least = kuambyte_least_bits(record, sizeof record, 1, PLAIN_TERMS);
-    EXPECT(least.number == KUAMBYTE_DONE && least.bits == 2 * (2 * 8 + 4 * 7) && least.blocks == 6);
+    EXPECT(least.number == KUAMBYTE_DONE && least.g == 2 * (2 * 8 + 4 * 7) && least.blocks == 6);
     EXPECT(least.larger == 2 && least.first == 16 && least.last == 14);
 }
 
 static void shelves(void) {
-    kuambyte_place place = kuambyte_lookup(own, sizeof own, none, sizeof none, 1, 7);
-    EXPECT(place.number == KUAMBYTE_DONE && place.shelf == KUAMBYTE_PRIVATE && place.start == 10 && place.octets == 26);
+    kuambyte_stretch found = kuambyte_lookup(own, sizeof own, none, sizeof none, 1, 7);
+    EXPECT(found.number == KUAMBYTE_DONE && found.shelf == KUAMBYTE_PRIVATE && found.start == 10 && found.octets == 26);
     EXPECT(kuambyte_lookup_number(own, sizeof own, none, sizeof none, 1, 7) == KUAMBYTE_DONE);
     /* The same shelf with tenant 0 is a public one. */
     uint8_t everybody[sizeof own];
     for (size_t i = 0; i < sizeof own; i++) everybody[i] = own[i];
     everybody[3] = 0;
-    place = kuambyte_lookup(none, sizeof none, everybody, sizeof everybody, 1, 7);
-    EXPECT(place.number == KUAMBYTE_DONE && place.shelf == KUAMBYTE_PUBLIC && place.start == 10 && place.octets == 26);
+    found = kuambyte_lookup(none, sizeof none, everybody, sizeof everybody, 1, 7);
+    EXPECT(found.number == KUAMBYTE_DONE && found.shelf == KUAMBYTE_PUBLIC && found.start == 10 && found.octets == 26);
     clear();
     kuambyte_written w = kuambyte_put_record(none, sizeof none, 1, 7, toy, sizeof toy, out, ROOM);
     bool same = w.number == KUAMBYTE_DONE && w.count == sizeof own && kept_from(sizeof own);

@@ -1,7 +1,7 @@
 -- Agreement (document 01, "What the promises say"): "For every input, good or refused, a public call's promise names one result and one content of
 -- the lent memory, so that two implementations meeting it agree; that agreement is proved". Here for every public call.
-use mathlib.Core.Path.{_≡_}
-use mathlib.Core.Bool.{Bool}
+use mathlib.Core.Path.{_≡_, sym, _∙_}
+use mathlib.Core.Bool.{Bool, false}
 use mathlib.Core.List.{List}
 use Prim.Native.Nat.{ℕ}
 use denote.Ref.{RefT, now, ptr}
@@ -37,9 +37,9 @@ use Rattle.coding.proofs.Agreement.{send-agree, receive-agree}
 use Rattle.shelf.specs.Lookup.{lookupNumber}
 use Rattle.shelf.specs.Promises.{LookedUp, HostedSent, HostedReceived, HostedChecked}
 use Rattle.shelf.proofs.Agreement.{lookup-number-agree, lookup-agree, hosted-send-agree, hosted-receive-agree, hosted-check-agree}
-use Rattle.abi.specs.Promises.{LookedUpAt}
-use Rattle.abi.specs.declared.shelves.Place.{Place}
-use Rattle.abi.proofs.Agreement.{lookup-at-agree}
+use Rattle.abi.specs.Promises.{Held, Nothing, LookedUpAt, refusedWith}
+use Rattle.abi.specs.declared.shelves.Stretch.{Stretch}
+use Rattle.abi.proofs.Agreement.{lookup-at-agree, held-agree, nothing-agree}
 use Rattle.keeping.specs.Promises.{RecordPut, RecordRemoved}
 use Rattle.keeping.proofs.Agreement.{put-agree, remove-agree}
 use Rattle.rules.specs.Promises.{ShelfRule, RecordRule}
@@ -175,7 +175,42 @@ of-shelf a b = shelf-rule-agree a b
 pub of-record : {R : List ℕ} {r r' : Wrong} → RecordRule R r → RecordRule R r' → r ≡ r'
 of-record a b = record-rule-agree a b
 
--- ---- abi::kuambyte_lookup; every other function of abi has the promise of the call below
+-- ---- those functions of abi that are told who asks for what; every other one has the promise of the call below
 
-pub kuambyte-lookup : {private public : List ℕ} {t p : ℕ} {r r' : Place} → LookedUpAt private public t p r → LookedUpAt private public t p r' → r ≡ r'
-kuambyte-lookup a b = lookup-at-agree a b
+pub kuambyte-lookup-number : (private public : List ℕ) (t p : ℕ) {r r' : ℕ}
+    → Held t p (r ≡ 4) (r ≡ lookupNumber private public t p) → Held t p (r' ≡ 4) (r' ≡ lookupNumber private public t p) → r ≡ r'
+kuambyte-lookup-number private public t p a b = held-agree (λ x y. x ∙ sym y) (λ x y. x ∙ sym y) a b
+
+pub kuambyte-lookup : {private public : List ℕ} {t p : ℕ} {r r' : Stretch}
+    → Held t p (r ≡ refusedWith 4) (LookedUpAt private public t p r) → Held t p (r' ≡ refusedWith 4) (LookedUpAt private public t p r') → r ≡ r'
+kuambyte-lookup a b = held-agree (λ x y. x ∙ sym y) (λ x y. lookup-at-agree x y) a b
+
+pub kuambyte-put-record : (S : List ℕ) (t p : ℕ) (R : List ℕ) {out : List ℕ} {r r' : Written} {o o' : List ℕ}
+    → Held t p (Nothing 26 out r o) (RecordPut S t p R out r o)
+    → Held t p (Nothing 26 out r' o') (RecordPut S t p R out r' o')
+    → (r ≡ r') × (o ≡ o')
+kuambyte-put-record S t p R a b = held-agree (λ x y. nothing-agree x y) (λ x y. put-agree S t p R x y) a b
+
+pub kuambyte-remove-record : (S : List ℕ) (t p : ℕ) {out : List ℕ} {r r' : Written} {o o' : List ℕ}
+    → Held t p (Nothing 4 out r o) (RecordRemoved S t p out r o)
+    → Held t p (Nothing 4 out r' o') (RecordRemoved S t p out r' o')
+    → (r ≡ r') × (o ≡ o')
+kuambyte-remove-record S t p a b = held-agree (λ x y. nothing-agree x y) (λ x y. remove-agree S t p x y) a b
+
+pub kuambyte-hosted-send : {private public : List ℕ} {t p : ℕ} {block : List ℕ} {terms : Terms} {g : ℕ} {out : List ℕ} {r r' : Written} {o o' : List ℕ}
+    → Held t p (Nothing 4 out r o) (HostedSent private public t p block terms g out r o)
+    → Held t p (Nothing 4 out r' o') (HostedSent private public t p block terms g out r' o')
+    → (r ≡ r') × (o ≡ o')
+kuambyte-hosted-send a b = held-agree (λ x y. nothing-agree x y) (λ x y. hosted-send-agree x y) a b
+
+pub kuambyte-hosted-receive : {private public : List ℕ} {t p a : ℕ} {terms : Terms} {bits out : List ℕ} {r r' : Written} {o o' : List ℕ}
+    → Held t p (Nothing 4 out r o) (HostedReceived private public t p a terms bits out r o)
+    → Held t p (Nothing 4 out r' o') (HostedReceived private public t p a terms bits out r' o')
+    → (r ≡ r') × (o ≡ o')
+kuambyte-hosted-receive a b = held-agree (λ x y. nothing-agree x y) (λ x y. hosted-receive-agree x y) a b
+
+pub kuambyte-hosted-check : {private public : List ℕ} {t p z : ℕ} {word : List ℕ} {r r' : Verdict}
+    → Held t p (r ≡ record { number = 4; checks = false }) (HostedChecked private public t p z word r)
+    → Held t p (r' ≡ record { number = 4; checks = false }) (HostedChecked private public t p z word r')
+    → r ≡ r'
+kuambyte-hosted-check a b = held-agree (λ x y. x ∙ sym y) (λ x y. hosted-check-agree x y) a b

@@ -13,7 +13,7 @@ use Rattle.shelf.specs.Shelf.{offset}
 use Rattle.shelf.specs.Lookup.{has, entryOf, lookupNumber, into, lookupPlace}
 use Rattle.shelf.specs.Promises.{LookedUp}
 use Rattle.abi.specs.Promises.{named, LookedUpAt}
-use Rattle.abi.specs.declared.shelves.Place.{Place}
+use Rattle.abi.specs.declared.shelves.Stretch.{Stretch}
 
 -- a place on one of two shelves, by the shelf's number: 1 the one that lies at q, 0 the one at r
 abbrev on : ℕ × ℕ → ℕ × ℕ → ℕ × ℕ → ℕ × ℕ
@@ -33,13 +33,13 @@ placed private public t p q r =
     anywhere (lookupNumber private public t p) (has private t p) (offset private (entryOf private t p)) (offset public (entryOf public 0 p)) q r
 
 -- the octets there are those that lookup hands back, and they lie where lookup's lie: so many octets from `start` on of the shelf that is named
-pub lookup-crosses : {private public : RefT (List ℕ)} {t p : ℕ} {r : RefT (List ℕ)} {q : Place}
+pub lookup-crosses : {private public : RefT (List ℕ)} {t p : ℕ} {r : RefT (List ℕ)} {q : Stretch}
     → LookedUp private public t p r
     → LookedUpAt (now private) (now public) t p q
     → (now r ≡ take (q .octets) (drop (q .start) (named (now private) (now public) (q .shelf))))
     × (ptr r ≡ into (cond (eqb (q .shelf) 1) (ptr private) (ptr public)) (q .start))
 lookup-crosses {private} {public} {t} {p} a b = (
-  a .octets ∙ sym (b .stretch),
+  a .octets ∙ sym (b .found),
   a .place
       ∙ placed (now private) (now public) t p (ptr private) (ptr public)
       ∙ ap (λ (at : ℕ × ℕ). on (ptr private) (ptr public) at) (sym (b .place)),

@@ -15,8 +15,8 @@ fn exchange(private: &str, public: &str) -> Result<(), Box<dyn Error>> {
 
     let terms = Terms::new(Layers(1), Order(2));
     let least = profile.least_bits(Octets(5), terms)?;
-    let mut bits = vec![0; least.bits.0];
-    let sent = profile.send(b"Hello", terms, least.bits, &mut bits)?;
+    let mut bits = vec![0; least.g.0];
+    let sent = profile.send(b"Hello", terms, least.g, &mut bits)?;
 
     let mut block = [0; 5];
     let block = profile.receive(Octets(5), terms, sent, &mut block)?;

@@ -29,7 +29,7 @@ pub struct Nearest<'o> {
     pub differences: usize,
 }
 
-/// Writes the three streams that a word is coded to.
+/// Writes the three streams that a word of D bits is coded to: 3D bits.
 ///
 /// # Errors
 /// 17, 11, 12.
@@ -65,7 +65,9 @@ pub fn send_word<'o>(
     raw::written(answer, out)
 }
 
-/// Writes the three streams of a word of `d` bits that were sent as bits, whose count is E.
+/// Writes the three streams of a word of `d` bits that were sent as bits, whose count is E: 3D bits.
+/// Bits behind the first 3D are copies, and copies that differ are refused with 14: of bits that
+/// noise has touched, lend the first 3D.
 ///
 /// # Errors
 /// 17, 8 for E, 11, 12, 13 for E below 3D, 14.

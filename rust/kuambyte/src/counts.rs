@@ -99,6 +99,12 @@ pub struct Terms {
     pub edition: Edition,
 }
 
+/// ```
+/// use kuambyte::{Edition, Layers, Order, RedundancyVersion, Terms};
+///
+/// let terms = Terms::new(Layers(2), Order(4)).edition(Edition::TWO);
+/// assert_eq!((terms.rv, terms.edition), (RedundancyVersion(0), Edition(2)));
+/// ```
 impl Terms {
     /// Terms of redundancy version 0 and edition 1.
     #[must_use]
@@ -109,6 +115,18 @@ impl Terms {
             rv: RedundancyVersion(0),
             edition: Edition::ONE,
         }
+    }
+
+    /// The same with this redundancy version.
+    #[must_use]
+    pub fn rv(self, rv: RedundancyVersion) -> Terms {
+        Terms { rv, ..self }
+    }
+
+    /// The same in this edition.
+    #[must_use]
+    pub fn edition(self, edition: Edition) -> Terms {
+        Terms { edition, ..self }
     }
 }
 

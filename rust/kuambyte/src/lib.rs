@@ -17,8 +17,8 @@
 //!
 //! let terms = Terms::new(Layers(1), Order(2));
 //! let least = profile.least_bits(Octets(2), terms)?;
-//! let mut bits = vec![0; least.bits.0];
-//! let sent = profile.send(b"Hi", terms, least.bits, &mut bits)?;
+//! let mut bits = vec![0; least.g.0];
+//! let sent = profile.send(b"Hi", terms, least.g, &mut bits)?;
 //!
 //! let mut block = [0; 2];
 //! assert_eq!(profile.receive(Octets(2), terms, sent, &mut block)?, b"Hi");

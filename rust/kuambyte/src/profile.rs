@@ -43,8 +43,8 @@ pub struct Plan {
 /// The least G with which every code block has room for all its coded bits.
 #[derive(Clone, Copy, Debug, PartialEq, Eq)]
 pub struct Least {
-    /// G.
-    pub bits: CodedBits,
+    /// G, the bits to ask for.
+    pub g: CodedBits,
     /// C, the count of code blocks.
     pub blocks: usize,
     /// How many of them, the first ones, have one symbol place more than the others.
@@ -89,6 +89,42 @@ impl<'a> Profile<'a> {
         self.record
     }
 
+    /// kb, the groups of systematic places.
+    #[must_use]
+    pub fn kb(&self) -> usize {
+        self.number(0)
+    }
+
+    /// m, the groups of rows of the staircase.
+    #[must_use]
+    pub fn m(&self) -> usize {
+        self.number(2)
+    }
+
+    /// x, the groups of rows of the extension.
+    #[must_use]
+    pub fn x(&self) -> usize {
+        self.number(4)
+    }
+
+    /// The type.
+    #[must_use]
+    pub fn kind(&self) -> Type {
+        Type(self.number(6))
+    }
+
+    /// The sizes, which rise; a code block is coded with one of them.
+    pub fn sizes(&self) -> impl Iterator<Item = Size> + 'a {
+        let profile = *self;
+        (0..self.number(8)).map(move |k| Size(profile.number(10 + 4 * k)))
+    }
+
+    /// The number of two octets that stands so far into the record, which is long enough: it was
+    /// judged.
+    fn number(&self, at: usize) -> usize {
+        usize::from(u16::from_be_bytes([self.record[at], self.record[at + 1]]))
+    }
+
     /// How a transport block of so many octets is cut.
     ///
     /// # Errors
@@ -108,7 +144,8 @@ impl<'a> Profile<'a> {
         raw::done(plan.number, given)
     }
 
-    /// The least G with which a transport block of so many octets can be received.
+    /// The least G with which a transport block of so many octets can be received: what to ask for
+    /// before sending.
     ///
     /// # Errors
     /// 19, 7, 16, 8 for layers or order, 9, and 13 where no G up to 65,536 has room.
@@ -116,7 +153,7 @@ impl<'a> Profile<'a> {
         let record = self.record;
         let least = call!(kuambyte_least_bits: read record (block.0) (terms.raw()));
         let given = Least {
-            bits: CodedBits(least.bits),
+            g: CodedBits(least.g),
             blocks: least.blocks,
             larger: least.larger,
             first: CodedBits(least.first),
@@ -125,7 +162,9 @@ impl<'a> Profile<'a> {
         raw::done(least.number, given)
     }
 
-    /// Sends a transport block as `g` bits, which are handed back as the front of `out`.
+    /// Sends a transport block as `g` bits, a multiple of layers times order up to 65,536, which are
+    /// handed back as the front of `out`. With fewer than [`Profile::least_bits`] gives it is sent as
+    /// well, but cannot be received: that is refused with 13.
     ///
     /// # Errors
     /// 19, 7, 16, 8, 9, 10, 11.

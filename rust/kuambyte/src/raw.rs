@@ -44,7 +44,7 @@ pub struct Plan {
 #[repr(C)]
 pub struct Least {
     pub number: u32,
-    pub bits: usize,
+    pub g: usize,
     pub blocks: usize,
     pub larger: usize,
     pub first: usize,
@@ -59,7 +59,7 @@ pub struct Closest {
 }
 
 #[repr(C)]
-pub struct Place {
+pub struct Stretch {
     pub number: u32,
     pub shelf: u32,
     pub start: usize,
@@ -107,14 +107,14 @@ extern "C" {
         n: usize,
         public: In,
         m: usize,
-        tenant: u16,
-        profile: u16,
-    ) -> Place;
+        tenant: usize,
+        profile: usize,
+    ) -> Stretch;
     pub fn kuambyte_put_record(
         private: In,
         n: usize,
-        tenant: u16,
-        profile: u16,
+        tenant: usize,
+        profile: usize,
         record: In,
         m: usize,
         out: Out,
@@ -123,8 +123,8 @@ extern "C" {
     pub fn kuambyte_remove_record(
         private: In,
         n: usize,
-        tenant: u16,
-        profile: u16,
+        tenant: usize,
+        profile: usize,
         out: Out,
         lent: usize,
     ) -> Written;
@@ -161,8 +161,8 @@ extern "C" {
         n: usize,
         public: In,
         m: usize,
-        tenant: u16,
-        profile: u16,
+        tenant: usize,
+        profile: usize,
         block: In,
         octets: usize,
         terms: Terms,
@@ -175,8 +175,8 @@ extern "C" {
         n: usize,
         public: In,
         m: usize,
-        tenant: u16,
-        profile: u16,
+        tenant: usize,
+        profile: usize,
         a: usize,
         terms: Terms,
         bits: In,
@@ -217,8 +217,8 @@ extern "C" {
         n: usize,
         public: In,
         m: usize,
-        tenant: u16,
-        profile: u16,
+        tenant: usize,
+        profile: usize,
         z: usize,
         word: In,
         bits: usize,

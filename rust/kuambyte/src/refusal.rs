@@ -2,6 +2,7 @@
 
 use std::error::Error;
 use std::fmt;
+use std::process::ExitCode;
 
 macro_rules! refusals {
     ($($name:ident = $number:literal, $meaning:literal, $next:literal;)*) => {
@@ -67,7 +68,7 @@ refusals! {
     Parameter = 8, "N_L, Q_m, G or E is not one that can be sent with, or a z, a width or a length is not one that the call takes",
         "N_L is 1 to 4, Q_m 2, 4 or 6, G and E are at most 65536, and G is a multiple of N_L times Q_m";
     TooManyBlocks = 9, "the block takes more than 64 code blocks, or in edition 2 a code block has no room beside its checksum",
-        "send a shorter block, or take a profile with larger code blocks";
+        "send a shorter block, or take edition 1 or a profile with larger code blocks";
     TooFewPlaces = 10, "G has fewer symbol places than there are code blocks",
         "`Profile::least_bits` gives the least G with room";
     ShortOutput = 11, "the output is shorter than the result",
@@ -77,7 +78,7 @@ refusals! {
     NoRoom = 13, "there is no room for all coded bits",
         "`Profile::least_bits` gives the least G with room";
     Unsent = 14, "nothing is sent as these bits",
-        "ask for the block again";
+        "ask for it again";
     RedundancyVersion = 16, "the redundancy version is over 3, or is not 0 and the profile is of Type 1",
         "with Type 1 it is 0";
     ControlLength = 17, "the control word is not 6 to 128 bits",
@@ -89,7 +90,8 @@ refusals! {
 }
 
 impl Refusal {
-    /// The number, which is also the exit status of the program `kuambyte`.
+    /// The number. `ExitCode::from` makes of a refusal the exit status that the program `kuambyte`
+    /// ends with, which is the same number.
     #[must_use]
     pub fn number(self) -> u32 {
         self as u32
@@ -116,3 +118,9 @@ impl fmt::Display for Refusal {
 }
 
 impl Error for Refusal {}
+
+impl From<Refusal> for ExitCode {
+    fn from(refusal: Refusal) -> ExitCode {
+        ExitCode::from(refusal as u8)
+    }
+}

@@ -37,13 +37,13 @@ macro_rules! rules {
 rules! {
     /// A rule of a shelf, in the words of the service.
     ShelfRule {
-        NoCount, "it has a count, two octets";
-        Count, "its count n is 0 to 64";
-        EntriesCut, "then come n entries of tenant, profile number, offset and length";
+        NoCount, "it begins with a count n of two octets";
+        Count, "n is 0 to 64";
+        EntriesCut, "then come n entries of tenant, profile number, offset and length, two octets each";
         Pairs, "pairs of tenant and profile number strictly rise";
         FirstOffset, "the first offset is 2 + 8n";
         NextOffset, "each next offset is the end of the record before";
-        End, "it ends with the last record, at 2 where there is none";
+        End, "it ends with the last record, at 2 where n is 0";
         Size, "it has at most 65,535 octets";
         Tenant, "every tenant is 0 in a public shelf and 1 or more in a private one";
     }
@@ -52,7 +52,7 @@ rules! {
 rules! {
     /// A rule of a profile record: up to `Entry` those of number 5, then those of number 6.
     RecordRule {
-        NoHeader, "it has a header of ten octets: kb, m, x, type and t";
+        NoHeader, "it begins with kb, m, x, type and t, two octets each";
         Kb, "kb is 1 to 20";
         M, "m is 3 to 12";
         X, "x is 0 to 37";
@@ -60,7 +60,7 @@ rules! {
         Type, "the type is 1 or 2";
         Type1Extended, "with Type 1 x is 0";
         T, "t is 1 to 3";
-        PairsCut, "then come t pairs of z and offset";
+        PairsCut, "then come t pairs of z and offset, two octets each";
         Z, "z is 1 to 81";
         ZRising, "sizes strictly rise";
         FirstOffset, "the first offset is 10 + 4t";
@@ -68,11 +68,11 @@ rules! {
         End, "it ends with the last table";
         Entry, "an entry is 255 for empty, else a shift below its z";
         TopEmpty, "column kb is filled in row 0";
-        LastEmpty, "column kb is filled in row m−1";
+        LastEmpty, "column kb is filled in row m-1";
         Between, "column kb is filled in exactly one row between";
         Outer, "the two outer shifts of column kb are equal";
         Middle, "the middle shift of column kb is 0";
-        Column, "column kb+j holds 0 in rows j−1 and j and is empty elsewhere";
+        Column, "column kb+j holds 0 in rows j-1 and j, and is empty elsewhere";
         RowExtended, "staircase rows are empty in all extension columns";
         OwnColumn, "extension row m+i holds 0 in column kb+m+i";
         LaterColumn, "in extension row m+i later columns are empty";
@@ -86,7 +86,7 @@ pub struct BrokenShelf {
     pub rule: ShelfRule,
     /// The entry, where the rule is about one, and 0 elsewhere.
     pub entry: usize,
-    /// The octet where.
+    /// The octet where; where the end is wrong, it may be the length, at which there is none.
     pub at: usize,
 }
 
@@ -101,7 +101,7 @@ pub struct BrokenRecord {
     pub row: usize,
     /// Its column, likewise.
     pub column: usize,
-    /// The octet where.
+    /// The octet where; where the end is wrong, it may be the length, at which there is none.
     pub at: usize,
 }
 
@@ -113,7 +113,7 @@ pub struct BrokenRecord {
 /// let no_rows = [0, 1, 0, 0, 0, 0, 0, 1, 0, 1];
 /// let broken = broken_record(&no_rows).expect("m is 0");
 /// assert_eq!((broken.rule, broken.at), (RecordRule::M, 2));
-/// assert_eq!(broken.rule.to_string(), "m is 3 to 12");
+/// assert_eq!(broken.to_string(), "the rule that is broken first: m is 3 to 12 (octet 2)");
 /// ```
 #[must_use]
 pub fn broken_record(record: &[u8]) -> Option<BrokenRecord> {
@@ -142,4 +142,31 @@ impl BrokenShelf {
 fn rule_of<R: Copy>(all: &[R], number: usize) -> Option<R> {
     let place = number.checked_sub(1)?;
     Some(*all.get(place).unwrap_or_else(|| raw::unknown(number)))
+}
+
+impl fmt::Display for BrokenShelf {
+    fn fmt(&self, f: &mut fmt::Formatter<'_>) -> fmt::Result {
+        let BrokenShelf { rule, entry, at } = self;
+        write!(f, "the rule that is broken first: {rule} (")?;
+        match rule {
+            ShelfRule::Pairs
+            | ShelfRule::FirstOffset
+            | ShelfRule::NextOffset
+            | ShelfRule::Tenant => write!(f, "entry {entry}, octet {at})"),
+            _ => write!(f, "octet {at})"),
+        }
+    }
+}
+
+impl fmt::Display for BrokenRecord {
+    fn fmt(&self, f: &mut fmt::Formatter<'_>) -> fmt::Result {
+        write!(f, "the rule that is broken first: {} (", self.rule)?;
+        if self.rule as usize >= RecordRule::Entry as usize {
+            let BrokenRecord {
+                table, row, column, ..
+            } = self;
+            write!(f, "table {table}, row {row}, column {column}, ")?;
+        }
+        write!(f, "octet {})", self.at)
+    }
 }

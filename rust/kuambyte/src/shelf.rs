@@ -26,7 +26,7 @@ pub enum Side {
 }
 
 /// The octets of a shelf, private or public. Nothing is tested when it is made: a call refuses a
-/// shelf that is not well formed.
+/// shelf that is not well formed. `&[0, 0]` is a shelf with nothing on it.
 ///
 /// A public shelf does not stand in for a private one:
 ///
@@ -114,12 +114,12 @@ impl<'a> Shelf<'a, Private> {
         out: &'o mut [u8],
     ) -> Result<&'o mut [u8], Refusal> {
         let private = self.octets;
-        let answer =
-            call!(kuambyte_put_record: read private (tenant.0) (profile.0) read record write out);
+        let answer = call!(kuambyte_put_record: read private (tenant.0.into()) (profile.0.into()) read record write out);
         raw::written(answer, out)
     }
 
-    /// Writes the shelf without the tenant's record of this profile number.
+    /// Writes the shelf without the tenant's record of this profile number, which is shorter than
+    /// this one.
     ///
     /// # Errors
     /// 1, 2, 4, 11.
@@ -130,7 +130,7 @@ impl<'a> Shelf<'a, Private> {
         out: &'o mut [u8],
     ) -> Result<&'o mut [u8], Refusal> {
         let private = self.octets;
-        let answer = call!(kuambyte_remove_record: read private (tenant.0) (profile.0) write out);
+        let answer = call!(kuambyte_remove_record: read private (tenant.0.into()) (profile.0.into()) write out);
         raw::written(answer, out)
     }
 }
@@ -142,15 +142,16 @@ impl<'a> Shelves<'a> {
     /// 1, 2, 3, 4.
     pub fn lookup(&self, tenant: Tenant, profile: ProfileNumber) -> Result<Found<'a>, Refusal> {
         let (private, public) = (self.private.octets, self.public.octets);
-        let place = call!(kuambyte_lookup: read private read public (tenant.0) (profile.0));
-        let (side, octets) = match place.shelf {
+        let stretch =
+            call!(kuambyte_lookup: read private read public (tenant.0.into()) (profile.0.into()));
+        let (side, octets) = match stretch.shelf {
             raw::PRIVATE => (Side::Private, private),
             _ => (Side::Public, public),
         };
-        let start = place.start;
-        let record = &octets[start..start + place.octets];
+        let start = stretch.start;
+        let record = &octets[start..start + stretch.octets];
         raw::done(
-            place.number,
+            stretch.number,
             Found {
                 side,
                 start,
@@ -159,7 +160,8 @@ impl<'a> Shelves<'a> {
         )
     }
 
-    /// The profile of that record, judged once.
+    /// The profile of that record, judged once. To look at a record that is refused, look it up and
+    /// ask [`broken_record`](crate::rules::broken_record).
     ///
     /// # Errors
     /// 1, 2, 3, 4 as [`Shelves::lookup`], then 5, 6 as [`Profile::new`].
@@ -181,7 +183,7 @@ impl<'a> Shelves<'a> {
         out: &'o mut [u8],
     ) -> Result<&'o mut [u8], Refusal> {
         let (private, public) = (self.private.octets, self.public.octets);
-        let answer = call!(kuambyte_hosted_send: read private read public (tenant.0) (profile.0) read block (terms.raw()) (g.0) write out);
+        let answer = call!(kuambyte_hosted_send: read private read public (tenant.0.into()) (profile.0.into()) read block (terms.raw()) (g.0) write out);
         raw::written(answer, out)
     }
 
@@ -217,7 +219,7 @@ impl<'a> Shelves<'a> {
         out: &'o mut [u8],
     ) -> Result<&'o mut [u8], Refusal> {
         let (private, public) = (self.private.octets, self.public.octets);
-        let answer = call!(kuambyte_hosted_receive: read private read public (tenant.0) (profile.0) (block.bits()) (terms.raw()) read bits (checker.number()) write out);
+        let answer = call!(kuambyte_hosted_receive: read private read public (tenant.0.into()) (profile.0.into()) (block.bits()) (terms.raw()) read bits (checker.number()) write out);
         raw::written(answer, out)
     }
 
@@ -248,7 +250,7 @@ impl<'a> Shelves<'a> {
         checker: Checker,
     ) -> Result<bool, Refusal> {
         let (private, public) = (self.private.octets, self.public.octets);
-        let answer = call!(kuambyte_hosted_check: read private read public (tenant.0) (profile.0) (z.0) read word (checker.number()));
+        let answer = call!(kuambyte_hosted_check: read private read public (tenant.0.into()) (profile.0.into()) (z.0) read word (checker.number()));
         raw::tested(answer)
     }
 }

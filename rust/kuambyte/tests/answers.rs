@@ -115,6 +115,8 @@ fn records() {
     let broken = broken_record(&shifted).unwrap();
     assert_eq!((broken.rule, broken.table), (RecordRule::Entry, 0));
     assert_eq!((broken.row, broken.column, broken.at), (1, 0, 18));
+    let place = "(table 0, row 1, column 0, octet 18)";
+    assert!(broken.to_string().ends_with(place));
 }
 
 #[test]
@@ -159,7 +161,7 @@ fn receiving() {
 fn the_least_bits_have_room_and_no_fewer_have() {
     let least = toy().least_bits(Octets(1), TERMS).unwrap();
     assert_eq!(
-        (least.bits, least.blocks, least.larger),
+        (least.g, least.blocks, least.larger),
         (CodedBits(128), 16, 0)
     );
     assert_eq!((least.first, least.last), (CodedBits(8), CodedBits(8)));
@@ -181,10 +183,11 @@ fn a_plan_in_edition_2() {
             record.extend_from_slice(&staircase);
         }
     }
-    let plan = Profile::new(&record)
-        .unwrap()
-        .plan(Edition::TWO, Octets(3))
-        .unwrap();
+    let profile = Profile::new(&record).unwrap();
+    assert_eq!((profile.kb(), profile.m(), profile.x()), (20, 3, 0));
+    assert_eq!(profile.kind(), Type::ONE);
+    assert!(profile.sizes().eq([Size(1), Size(2)]));
+    let plan = profile.plan(Edition::TWO, Octets(3)).unwrap();
     assert_eq!(
         (plan.bits, plan.kmax, plan.blocks, plan.places),
         (48, 40, 3, 40)
@@ -203,10 +206,7 @@ fn the_least_bits_with_unequal_shares() {
         .unwrap()
         .least_bits(Octets(1), TERMS)
         .unwrap();
-    assert_eq!(
-        (least.bits, least.blocks, least.larger),
-        (CodedBits(88), 6, 2)
-    );
+    assert_eq!((least.g, least.blocks, least.larger), (CodedBits(88), 6, 2));
     assert_eq!((least.first, least.last), (CodedBits(16), CodedBits(14)));
 }
 
@@ -316,14 +316,18 @@ fn numbers_and_words_are_the_header_s() {
         let known = refusals.iter().any(|&(known, _)| known == number);
         assert_eq!(Refusal::from_number(number).is_some(), known);
     }
-    assert_eq!(
-        numbered("kuambyte_shelf_rule").len(),
-        ShelfRule::ALL.len() + 1
-    );
-    assert_eq!(
-        numbered("kuambyte_record_rule").len(),
-        RecordRule::ALL.len() + 1
-    );
+    let rules = |name| {
+        let of = |(_, words)| words;
+        numbered(name)
+            .into_iter()
+            .skip(1)
+            .map(of)
+            .collect::<Vec<_>>()
+    };
+    let of_shelf: Vec<_> = ShelfRule::ALL.iter().map(|rule| rule.words()).collect();
+    assert_eq!(rules("kuambyte_shelf_rule"), of_shelf);
+    let of_record: Vec<_> = RecordRule::ALL.iter().map(|rule| rule.words()).collect();
+    assert_eq!(rules("kuambyte_record_rule"), of_record);
 }
 
 #[test]

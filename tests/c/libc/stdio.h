@@ -10,6 +10,7 @@ FILE *fopen(const char *name, const char *mode);
 size_t fread(void *to, size_t size, size_t count, FILE *file);
 int fclose(FILE *file);
 int printf(const char *form, ...);
+void perror(const char *name);
 #ifdef __cplusplus
 }
 #endif

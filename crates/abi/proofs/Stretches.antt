@@ -24,9 +24,9 @@ by-shelf : {private public : List ℕ} {t p : ℕ} (n : ℕ) (own : Bool) (at si
     → LookedUpAt private public t p (record { number = n; shelf = cond own 1 0; start = at; octets = size })
 unfolding named stretchOf
 by-shelf n true at size l =
-    record { number = l .number; place = place-of n true at size l; inside = l .inside .within; stretch = l .octets }
+    record { number = l .number; place = place-of n true at size l; inside = l .inside .within; found = l .octets }
 by-shelf n false at size l =
-    record { number = l .number; place = place-of n false at size l; inside = l .inside .within; stretch = l .octets }
+    record { number = l .number; place = place-of n false at size l; inside = l .inside .within; found = l .octets }
 
 pub crosses : {private public : List ℕ} {t p : ℕ} (f : Found)
     → Looked private public t p f
