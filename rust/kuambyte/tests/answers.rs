@@ -277,6 +277,25 @@ fn keeping() {
     );
 }
 
+/// Nothing is kept between calls, so threads that call at once do not meet.
+#[test]
+fn threads_at_once() {
+    std::thread::scope(|scope| {
+        for first in 0..4 {
+            scope.spawn(move || {
+                for octet in (first..=255u8).step_by(4) {
+                    let (mut bits, mut block) = ([0; 128], [0]);
+                    let sent = toy()
+                        .send(&[octet], TERMS, CodedBits(128), &mut bits)
+                        .unwrap();
+                    let got = toy().receive(Octets(1), TERMS, sent, &mut block).unwrap();
+                    assert_eq!(got, [octet]);
+                }
+            });
+        }
+    });
+}
+
 #[test]
 fn nothing_at_all() {
     assert_eq!(Profile::new(&[]), Err(Refusal::Profile));
