@@ -1,4 +1,5 @@
-# What tests of what is linked and installed share: a folder to work in, counting what is tried, and where the kit is. Sourced by tests/library and tests/install.
+# What tests of what is linked, installed and read share: a folder to work in, counting what is tried, the version, and where the kit is. Sourced by
+# tests/library, tests/install and tests/pages.
 # shellcheck shell=sh disable=SC2034
 set -u
 top=$(dirname "$(dirname "$(readlink -f "$0")")")
@@ -6,6 +7,7 @@ name=$(basename "$0")
 machine=$(uname -m)
 kit=$(dirname "$(dirname "$(readlink -f "$(command -v rt)")")")
 tools=$kit/on/$machine/toolchain
+version=$(sed -n 's/^#define KUAMBYTE_VERSION "\(.*\)"/\1/p' "$top/include/kuambyte.h")
 work=$(mktemp -d)
 trap 'rm -rf "$work"' EXIT
 tried=0
@@ -40,9 +42,6 @@ emulated() {
         "$tools/bin/qemu-x86_64" "$tools/lib/ld-linux-x86-64.so.2" --library-path "$tools/lib" "$@"
     fi
 }
-
-# part FILE FIRST: what stands in a page between the fence ```FIRST and the next one.
-part() { awk -v first="\`\`\`$2" '$0 == "```" { inside = 0 } inside; $0 == first { inside = 1 }' "$1"; }
 
 # The verdict of a test.
 ended() {
