@@ -1,0 +1,259 @@
+#!/usr/bin/env python3
+"""Turns a crate's old proofs, proofs/F/Proof.antt, into today's Invariants.antt and Answers.antt.
+
+usage: turn_proofs.py CRATE.. at the top of the repository. For each crate it asks the kit for the old and the new name of each goal and of each place in the
+code (rt check --generated DIR --old-names), and then turns each proof: a loop's invariant and measure into functions of `l`, each need into an answer under its
+new name. An answer that only asks for the search is left out, since the check asks for it anyway. A file whose goals it cannot tell stays as it is.
+"""
+
+import json
+import os
+import re
+import subprocess
+import sys
+import tempfile
+
+TOKEN = r"[^\s(){}.;,@\"«»\[\]]+"
+HEAD = re.compile(r"^(?:pub )?(?:abbrev )?(?:pub )?([^\s(){}:;,.]+) :(?= |$)")
+
+
+def plain(name):
+    return name.lower().replace("-", "_")
+
+
+def blocks(text):
+    """The file as its leading comment, its use lines, and its declarations, each with the comment above it."""
+    lines = text.split("\n")
+    head, uses, found, note = [], [], [], []
+    i = 0
+    while i < len(lines) and lines[i].startswith("--"):
+        head.append(lines[i])
+        i += 1
+    current = None
+    for line in lines[i:]:
+        if line.startswith("use ") and current is None:
+            uses.append(line)
+        elif line.startswith("--"):
+            note.append(line)
+            current = None
+        elif HEAD.match(line):
+            current = [HEAD.match(line).group(1), note, [line]]
+            note = []
+            found.append(current)
+        elif current is not None:
+            current[2].append(line)
+    return head, uses, [(n, c, "\n".join(b).rstrip()) for n, c, b in found]
+
+
+def arguments(lines, name):
+    """A definition's arguments and its right side, from the line that defines it."""
+    text = "\n".join(lines)
+    m = re.search(r"(?m)^" + re.escape(name) + r"((?: [^=\n]+?)?) =(?=[ \n])", text)
+    if not m:
+        return None, None, None
+    return m.group(1).split(), text[m.end() :], text[: m.start()]
+
+
+def turn_loop(kind, new, names, variables, changed, block, old):
+    lines = block.split("\n")
+    args, right, _ = arguments(lines, old)
+    if args is None:
+        return None
+    wanted = [("l.initial." if c else "l.") + v for v, c in zip(variables, changed)] + ["l." + v for v, c in zip(variables, changed) if c]
+    if len(args) != len(wanted):
+        return None
+    for a, w in zip(args, wanted):
+        if a != "_":
+            right = re.sub(r"(?<![^\s(){};,\[\]])" + re.escape(a) + r"(?![^\s(){}.;,\[\]])", "\0" + w, right)
+    right = right.replace("\0", "")
+    unfolding = re.findall(r"(?m)^unfolding .*$", block)
+    return f"abbrev pub {kind}-{new} : goal.{kind}-{new}\n" + "".join(u + "\n" for u in unfolding) + f"{kind}-{new} l =" + right
+
+
+class Names:
+    def __init__(self, table):
+        self.needs = {}
+        for old, new in table["needs"]:
+            self.needs.setdefault(plain(old), new)
+        self.order = [new for _, new in table["needs"]]
+        self.steps, self.fields = {}, {}
+        for place in table["places"]:
+            old, new = place[2]
+            # A lent variable that came back is no step that a proof names.
+            if old and ("known" in old or not re.fullmatch(re.escape(old) + r"-\d+", new)):
+                self.steps.setdefault(plain(old), new)
+            for a, b in place[4]:
+                if not re.search(r"-\d+$", b):
+                    self.fields.setdefault((plain(old), a), b)
+        self.places = {}
+        for place, new in zip(table["places"], table["places_by_name"]):
+            self.places.setdefault(plain(place[0]), new)
+        self.params = {}
+        for callee, params in table["params"].items():
+            self.params[plain(callee.split("::")[-1])] = params
+        self.callee = {new: callee for _, _, (_, new), callee, _ in table["places"] if callee}
+        self.params_of = table["params"]
+
+
+def turn_paths(text, names):
+    """Each chain of fields: the steps by their new names, a test's raw fact, and the new value of a lent argument by the argument's name."""
+
+    def one(match):
+        root, chain = match.group(1), match.group(2).split(".")[1:]
+        out, step = [], None
+        k = 0
+        while k < len(chain):
+            f = chain[k]
+            if (k == 0 or chain[k - 1] == "before") and plain(f) in names.steps and f not in ("before", "args", "requires"):
+                out.append(names.steps[plain(f)])
+                step = plain(f)
+            elif step is not None and (step, f) in names.fields:
+                out.append(names.fields[(step, f)])
+            elif f in ("new", "auto") and step is not None and names.steps[step] in names.callee:
+                params = names.params_of.get(names.callee[names.steps[step]])
+                n, j = 0, k + 1
+                while j < len(chain) and chain[j] == "1":
+                    n += 1
+                    j += 1
+                if params and j < len(chain) and chain[j] == "0" and n < len(params):
+                    out += [f, params[n]]
+                    k = j
+                else:
+                    out.append(f)
+            else:
+                out.append(f)
+            k += 1
+        # What is known at a place has each earlier step by its name too.
+        if root == "c" and out[0] == "before":
+            rest = out
+            while rest and rest[0] == "before":
+                rest = rest[1:]
+            out = rest or out
+        return root + "".join("." + o for o in out)
+
+    return re.sub(r"(" + TOKEN + r"|\))((?:\.[^\s(){}.;,@\"«»\[\]]+)+)", one, text)
+
+
+def turn_types(text, names, loops):
+    """A helper that is typed by a place of the code."""
+
+    def one(match):
+        word = match.group(1)
+        kind = word[len("Need-") :] if word.startswith("Need-") else None
+        if kind is not None:
+            new = goal_of(names, kind)
+            return "goal." + new if new else match.group(0)
+        new = names.places.get(plain(word))
+        return "goal." + new if new else match.group(0)
+
+    text = re.sub(r"tie\.([^\s(){}.;,]+)", one, text)
+    for loop in loops:
+        text = text.replace(f" invariant-{loop} decreases-{loop}", "")
+    return text
+
+
+def goal_of(names, kind):
+    """A need's new name; the kit's first script put before some the kind of the goal, as overflow or nonzero."""
+    kind = plain(kind)
+    for name in (kind, re.sub(r"^(overflow|nonzero)_", "", kind)):
+        if name in names.needs:
+            return names.needs[name]
+    return None
+
+
+def turn(path, module, table):
+    with open(path, encoding="utf-8") as f:
+        text = f.read()
+    names = Names(table)
+    head, uses, found = blocks(text)
+    uses = [u for u in uses if ".Statement." not in u and not u.endswith(".Tie as tie")]
+    invariants, answers, helpers, loops = [], [], [], []
+    order = {new: k for k, new in enumerate(names.order)}
+    by_new = {}
+    table_loops = {}
+    for k, ((old, new), variables) in enumerate(table["loops"]):
+        table_loops[plain(old)] = (new, variables, table["changed"][k])
+    for name, note, block in found:
+        typed = block.split("\n", 1)[0]
+        if "statement" in typed and name.endswith("spec") or "tie.close" in block:
+            continue
+        m = re.search(r" : tie\.(invariant|decreases)-(\S+)", typed)
+        if m and plain(m.group(2)) in table_loops:
+            new, variables, changed = table_loops[plain(m.group(2))]
+            loops.append(m.group(2))
+            turned = turn_loop(m.group(1), new, names, variables, changed, block, name)
+            if turned is None:
+                return f"{path}: the arguments of {name} are not told"
+            invariants.append((note, turned))
+            continue
+        m = re.search(r" : tie\.Need-(\S+)", typed)
+        if m:
+            new = goal_of(names, m.group(1))
+            if new is None:
+                return f"{path}: no goal is told for {m.group(1)}"
+            args, right, before = arguments(block.split("\n"), name)
+            if args is None:
+                return f"{path}: {name} has no single equation"
+            unfolds = re.findall(r"(?m)^unfolding .*$", before)
+            if " ".join(right.split()) == "search rules" and not unfolds:
+                continue
+            by_new[new] = (note, new, unfolds, right, len(answers), args[0])
+            answers.append(("need", new))
+            continue
+        answers.append(("helper", (note, name, block)))
+    out = []
+    for kind, what in answers:
+        if kind == "helper":
+            note, name, block = what
+            out.append("\n".join(note + [turn_paths(turn_types(block, names, loops), names)]))
+        else:
+            note, new, unfolding, right, _, arg = by_new[what]
+            right = turn_paths(turn_types(right, names, loops), names)
+            out.append("\n".join(note + [f"pub {new} : goal.{new}"] + unfolding + [f"{new} {arg} ={right}"]))
+    folder = os.path.dirname(path)
+    comment = [h for h in head]
+    first = re.sub(r"^-- `[^`]*` meets its contract\.?:? ?", "-- ", comment[0]) if comment else ""
+    comment = ([first] if first.strip() != "--" and first else []) + comment[1:]
+    os.remove(path)
+    if invariants:
+        with open(os.path.join(folder, "Invariants.antt"), "w", encoding="utf-8") as f:
+            f.write("\n".join(comment + uses + [f"use {module}.Given as goal", ""]) + "\n" + "\n\n".join("\n".join(n + [b]) for n, b in invariants) + "\n")
+    needs = [o for k, o in answers if k == "need"]
+    if needs:
+        with open(os.path.join(folder, "Answers.antt"), "w", encoding="utf-8") as f:
+            f.write("\n".join(([] if invariants else comment) + uses + [f"use {module}.Goals as goal", ""]) + "\n" + "\n\n".join(out) + "\n")
+    if not os.listdir(folder):
+        os.removedirs(folder)
+    return None
+
+
+def main(crates):
+    top = subprocess.run(["git", "rev-parse", "--show-toplevel"], capture_output=True, text=True, check=True).stdout.strip()
+    for crate in crates:
+        root = os.path.join(top, "crates", crate)
+        with tempfile.TemporaryDirectory() as made:
+            r = subprocess.run(["rt", "check", "--generated", made, "--old-names"], cwd=root, capture_output=True, text=True)
+            try:
+                with open(os.path.join(made, "names.json"), encoding="utf-8") as f:
+                    tables = json.load(f)
+            except OSError:
+                print(f"{crate}: rt gives no names: {r.stdout[-300:]}{r.stderr[-600:]}")
+                continue
+        for key, table in sorted(tables.items()):
+            if not key.endswith(".Lts"):
+                continue
+            module = key[: -len(".Lts")].replace("Rattle-", "Rattle.", 1).replace(f"-{'proofs'}", ".proofs", 1)
+            inside = module.split(".proofs.", 1)[1].split(".")
+            path = os.path.join(root, "proofs", *inside, "Proof.antt")
+            if os.path.exists(path):
+                try:
+                    said = turn(path, module, table)
+                except Exception as e:  # noqa: BLE001, a file that is not told stays
+                    said = f"{path}: {type(e).__name__} {e}"
+                if said:
+                    print(said)
+    return 0
+
+
+if __name__ == "__main__":
+    sys.exit(main(sys.argv[1:]))
