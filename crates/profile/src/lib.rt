@@ -1,4 +1,5 @@
 // Profile records: judging one.
+#![tactic(auto)]
 mod form;
 pub mod inner;
 mod parts;
