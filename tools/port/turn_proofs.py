@@ -158,7 +158,7 @@ def goal_of(names, kind):
     for name in (kind, re.sub(r"^(overflow|nonzero)_", "", kind)):
         if name in names.needs:
             return names.needs[name]
-    return None
+    return next((new for new in names.order if plain(new) == kind), None)
 
 
 def turn(path, module, table):
