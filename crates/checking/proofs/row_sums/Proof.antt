@@ -32,7 +32,7 @@ table-requires c κs =
 mul-count : tie.Need-overflow-mul-count
 mul-count c =
     let shape = (sums-fit _ _ _ _ (sym c.before.before.before.before.before.sums-number.ensures ∙ c.before.before.before.before.if1.false)).0.shape in
-    omega (arith, mul-le-mul c.before.before.before.rows.ensures.2 shape.z-most)
+    omega (arith, mul-le-mul c.before.before.before.rows.ensures.2 shape.z_most)
 
 put-sums-requires : tie.Need-put-sums-requires
 put-sums-requires c κs =

@@ -7,7 +7,7 @@ use native.Mathlib.Omega.{arith}
 use lib.ListN.{length, get_or, get_or-append}
 use borrow.Author.Rules.{rules}
 use Rattle.profile.specs.Record.{kb, rows, columns}
-use Rattle.profile.proofs.Shape.{columns-is}
+use Rattle.profile.proofs.Shape.{columns_is}
 use Rattle.parity.proofs.Coded.{solution_front}
 use Rattle.parity.proofs.Ready.{ready, codable_read, table_read, coded_read}
 use Rattle.parity.proofs.code_in.Statement.{statement}
@@ -38,7 +38,7 @@ copy-requires : tie.Need-copy-requires
 copy-requires c κs =
     let st = c.before.before.before.before.before.before.before.before.before.before in
     let R = st.args.profile.now in
-    let all : columns R * st.args.z ≡ (kb R + rows R) * st.args.z = ap (λ (n : ℕ). n * st.args.z) (columns-is R) in
+    let all : columns R * st.args.z ≡ (kb R + rows R) * st.args.z = ap (λ (n : ℕ). n * st.args.z) (columns_is R) in
     omega (arith, all, add-mul (kb R) (rows R) st.args.z, st.requires.1, st.requires.0.long)
 
 code-requires : tie.Need-code-requires

@@ -14,7 +14,7 @@ lay-block-requires c κs =
     let a = st.args in
     let R = a.profile.now in
     let k = of_fields R st.requires.edition a.plan st.requires.ready.of in
-    (st.requires.inside, st.requires.carried-fits, omega (arith, word_room R a.plan k, st.requires.fits), plan-sum R a.plan k, st.requires.ready.single)
+    (st.requires.inside, st.requires.carried_fits, omega (arith, word_room R a.plan k, st.requires.fits), plan-sum R a.plan k, st.requires.ready.single)
 
 solve-requires : tie.Need-solve-requires
 solve-requires c κs =

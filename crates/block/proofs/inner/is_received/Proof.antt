@@ -35,7 +35,7 @@ room c =
     let st = c.before.before.before.before.before.before in
     let a = st.args in
     let k = some-fields a.profile.now a.plan st.requires.some in
-    omega (arith, word_room a.profile.now a.plan k, st.requires.fits, st.requires.carried-fits, c.is-sent-as.auto.1.1.1.1.1.1.0)
+    omega (arith, word_room a.profile.now a.plan k, st.requires.fits, st.requires.carried_fits, c.is-sent-as.auto.1.1.1.1.1.1.0)
 
 slice-reshare-prefix-sum-holds : tie.Need-slice-reshare-prefix-sum-init
 slice-reshare-prefix-sum-holds c = room c.before.before.before

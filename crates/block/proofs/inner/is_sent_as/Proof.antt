@@ -32,7 +32,7 @@ returns c =
     let st = c.before.before.before.before.before in
     let a = st.args in
     let R = a.profile.now in
-    let law = planned-sent-as R a.plan st.requires.some a.s.now a.carried a.from st.requires.carried-fits (omega (arith, st.requires.starts, st.requires.fits)) (omega (arith, st.requires.room, st.requires.fits)) st.requires.single (length a.word.now) st.requires.fits in
+    let law = planned-sent-as R a.plan st.requires.some a.s.now a.carried a.from st.requires.carried_fits (omega (arith, st.requires.starts, st.requires.fits)) (omega (arith, st.requires.room, st.requires.fits)) st.requires.single (length a.word.now) st.requires.fits in
     let none : copies_agree (a.carried + (length a.word.now - a.plan.places)) a.s.now ≡ false = sym c.before.copies-agree.ensures ∙ not-true _ c.if1.true in
     record { is = rw none at law; front = λ q. absurd (true≢false (sym q)) }
 
@@ -41,7 +41,7 @@ gather-requires c κs =
     let st = c.before.before.before.before.before.before in
     let a = st.args in
     let R = a.profile.now in
-    (st.requires.carried-fits, omega (arith, word_room R a.plan (some-fields R a.plan st.requires.some), st.requires.fits), omega (arith, st.requires.starts), st.requires.room)
+    (st.requires.carried_fits, omega (arith, word_room R a.plan (some-fields R a.plan st.requires.some), st.requires.fits), omega (arith, st.requires.starts), st.requires.room)
 
 is-even-requires : tie.Need-is-even-requires
 is-even-requires c κs =
@@ -59,12 +59,12 @@ returns-2 c =
     let st = c.before.before.before.before.before.before.before.before.before.before.before in
     let a = st.args in
     let R = a.profile.now in
-    let law = planned-sent-as R a.plan st.requires.some a.s.now a.carried a.from st.requires.carried-fits (omega (arith, st.requires.starts, st.requires.fits)) (omega (arith, st.requires.room, st.requires.fits)) st.requires.single (length a.word.now) st.requires.fits in
+    let law = planned-sent-as R a.plan st.requires.some a.s.now a.carried a.from st.requires.carried_fits (omega (arith, st.requires.starts, st.requires.fits)) (omega (arith, st.requires.room, st.requires.fits)) st.requires.single (length a.word.now) st.requires.fits in
     let all : copies_agree (a.carried + (length a.word.now - a.plan.places)) a.s.now ≡ true = sym c.before.before.before.before.before.before.before.copies-agree.ensures ∙ not-false _ c.before.before.before.before.before.before.if1.false in
     let gather = c.before.before.before.before.gather in
     record {
       is = c.is-even.ensures ∙ ap (checks_by R a.plan) gather.ensures ∙ (rw all at law);
-      front = λ q. ap (take a.carried) gather.ensures ∙ gathered-own R a.plan st.requires.some a.s.now a.carried a.from st.requires.carried-fits (omega (arith, st.requires.starts, st.requires.fits)) (omega (arith, st.requires.room, st.requires.fits)) st.requires.single (length a.word.now) st.requires.fits;
+      front = λ q. ap (take a.carried) gather.ensures ∙ gathered-own R a.plan st.requires.some a.s.now a.carried a.from st.requires.carried_fits (omega (arith, st.requires.starts, st.requires.fits)) (omega (arith, st.requires.room, st.requires.fits)) st.requires.single (length a.word.now) st.requires.fits;
     }
 
 pub is-sent-as-spec : {M : Type 1} → statement M

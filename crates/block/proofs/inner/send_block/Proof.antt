@@ -24,7 +24,7 @@ match-filled-requires c κs =
     let R = a.profile.now in
     let k = of_fields R st.requires.0.edition a.plan st.requires.0.ready.of in
     let code = c.before.before.before.before.before.code in
-    let filled = word-filler R a.bits.now a.plan k st.requires.0.ready.single a.start a.own st.requires.0.carried-fits st.requires.0.inside code.new.1.1.1.1.1.0 code.ensures in
+    let filled = word-filler R a.bits.now a.plan k st.requires.0.ready.single a.start a.own st.requires.0.carried_fits st.requires.0.inside code.new.1.1.1.1.1.0 code.ensures in
     let room = word_room R a.plan k in
     let tail : a.plan.places < length code.new.1.1.1.1.1.0 = omega (arith, room, code.ensures.size) in
     (filled, tail, omega (arith, code.ensures.size, st.requires.0.fits, st.requires.1), omega (arith, st.requires.2))
@@ -42,7 +42,7 @@ returns c =
     let R = a.profile.now in
     let k = of_fields R st.requires.0.edition a.plan st.requires.0.ready.of in
     let code = c.before.before.before.before.before.before.before.before.code in
-    let same = word-coded R a.bits.now a.plan k st.requires.0.ready.single a.start a.own st.requires.0.carried-fits st.requires.0.inside code.new.1.1.1.1.1.0 code.ensures in
+    let same = word-coded R a.bits.now a.plan k st.requires.0.ready.single a.start a.own st.requires.0.carried_fits st.requires.0.inside code.new.1.1.1.1.1.0 code.ensures in
     c.before.before.match-filled.ensures ∙ ap (λ (w : List ℕ). matched (turned a.from w) a.e.0 ++ drop a.e.0 a.out.now) same
 
 pub send-block-spec : {M : Type 1} → statement M

@@ -2,7 +2,7 @@
 use mathlib.Core.Path.{sym, ◌∙◌}
 use native.Mathlib.Omega.{arith}
 use borrow.Author.Rules.{rules}
-use Rattle.checking.proofs.Answers.{fit, rows-most, sums_first, sums-11, sums-12, sums-0}
+use Rattle.checking.proofs.Answers.{fit, rows_most, sums_first, sums-11, sums-12, sums-0}
 use Rattle.checking.proofs.gate.sums_number.Statement.{statement}
 use Rattle.checking.proofs.gate.sums_number.Tie as tie
 
@@ -18,7 +18,7 @@ rows-requires c κs = (fit _ _ _ (sym c.before.fit-number.ensures ∙ c.if1.fals
 mul-if2 : tie.Need-overflow-mul-if2
 mul-if2 c =
     let a = c.before.before.before.before.before.args in
-    omega (arith, rows-most _ _ _ a.room _ c.before.before.fit-number.ensures c.before.if1.false _ c.rows.ensures.0)
+    omega (arith, rows_most _ _ _ a.room _ c.before.before.fit-number.ensures c.before.if1.false _ c.rows.ensures.0)
 
 returns-2 : tie.Need-returns-2
 returns-2 c =

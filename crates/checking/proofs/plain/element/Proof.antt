@@ -31,13 +31,13 @@ rem-one c = search rules
 cast-one : tie.Need-overflow-cast-one
 cast-one c =
     let h = c.before.before.requires.0 in
-    omega (arith, h.shifts _ c.if1.false, h.z-most)
+    omega (arith, h.shifts _ c.if1.false, h.z_most)
 
 add-one : tie.Need-overflow-add-one
 add-one c =
     let st = c.before.before in
     let h = st.requires.0 in
-    omega (arith, h.shifts _ c.if1.false, mod-lt st.args.row h.z-some, mod-lt st.args.place h.z-some, h.z-most)
+    omega (arith, h.shifts _ c.if1.false, mod-lt st.args.row h.z_some, mod-lt st.args.place h.z_some, h.z_most)
 
 rem-one-2 : tie.Need-nonzero-rem-one-2
 rem-one-2 c = search rules

@@ -19,7 +19,7 @@ decreases-loop table rows columns z word out₀ count at₀ out at = count - at
 mul-count : tie.Need-overflow-mul-count invariant-loop decreases-loop
 mul-count c =
     let shape = c.before.before.before.requires.0 in
-    omega (arith, mul-le-mul shape.rows-most shape.z-most)
+    omega (arith, mul-le-mul shape.rows_most shape.z_most)
 
 loop-holds : tie.Need-loop-init invariant-loop decreases-loop
 loop-holds c = (search rules, run_none _ _ _)

@@ -18,7 +18,7 @@ decreases-loop table columns z word row places sum₀ place₀ sum place = place
 mul-places : tie.Need-overflow-mul-places invariant-loop decreases-loop
 mul-places c =
     let h = c.before.before.requires.0 in
-    omega (arith, mul-le-mul h.columns-most h.z-most)
+    omega (arith, mul-le-mul h.columns_most h.z_most)
 
 loop-holds : tie.Need-loop-init invariant-loop decreases-loop
 loop-holds c = (search rules, search rules, summed-none _ _ _ _ _)

@@ -19,7 +19,7 @@ decreases-loop table rows columns z word all row₀ row = all - row
 mul-all : tie.Need-overflow-mul-all invariant-loop decreases-loop
 mul-all c =
     let shape = c.before.before.requires.0 in
-    omega (arith, mul-le-mul shape.rows-most shape.z-most)
+    omega (arith, mul-le-mul shape.rows_most shape.z_most)
 
 loop-holds : tie.Need-loop-init invariant-loop decreases-loop
 loop-holds c = (search rules, λ k l. absurd (omega arith))
@@ -36,7 +36,7 @@ returns c =
 add_row : tie.Need-overflow-add-row invariant-loop decreases-loop
 add_row c =
     let shape = c.before.before.before.before.before.before.requires.0 in
-    omega (arith, mul-le-mul shape.rows-most shape.z-most, c.before.before)
+    omega (arith, mul-le-mul shape.rows_most shape.z_most, c.before.before)
 
 loop-less : tie.Need-loop-smaller invariant-loop decreases-loop
 loop-less c = search rules

@@ -9,12 +9,12 @@ use Rattle.cutting.proofs.cut.cutting.Tie as tie
 ceil-requires : tie.Need-ceil-requires
 ceil-requires c κs =
     let p = c.before.requires in
-    (p.bits-high, p.count_low, omega (arith, p.count-high))
+    (p.bits_high, p.count_low, omega (arith, p.count_high))
 
 add-need : tie.Need-overflow-add-need
 add-need c =
     let p = c.before.before.requires in
-    omega (arith, c.ceil.ensures, p.fits, p.most-few)
+    omega (arith, c.ceil.ensures, p.fits, p.most_few)
 
 index-for-requires : tie.Need-index-for-requires
 index-for-requires c κs = c.before.before.requires.accepted
@@ -22,7 +22,7 @@ index-for-requires c κs = c.before.before.requires.accepted
 z-requires : tie.Need-z-requires
 z-requires c κs =
     let p = c.before.before.before.requires in
-    (p.accepted, c.index-for.ensures.1 (omega (arith, c.before.ceil.ensures, p.fits, p.most-is)))
+    (p.accepted, c.index-for.ensures.1 (omega (arith, c.before.ceil.ensures, p.fits, p.most_is)))
 
 kb-requires : tie.Need-kb-requires
 kb-requires c κs = c.before.before.before.before.requires.accepted

@@ -138,11 +138,11 @@ cutting-requires c κs =
     let each : ceil b n.count.result ≡ ceil b (blocks R ed b) = ap (ceil b) (counted n) in
     record {
       accepted = s.requires;
-      bits-high = search rules;
-      most-is = most.0;
-      most-few = most.2;
+      bits_high = search rules;
+      most_is = most.0;
+      most_few = most.2;
       count_low = omega (arith, counted n);
-      count-high = search rules;
+      count_high = search rules;
       fits = omega (arith, need-most R shape ed b (omega arith) (fits n), each, sum_is sums, most.0);
     }
 

@@ -62,7 +62,7 @@ keep-requires c κs =
     let a = c.before.before.before.before.before.before.before.before.before.before.before.before.before.before.before.args in
     let p = c.before.before.before.before.before.before.before.before.before.before.before.before.before.before.before.requires in
     let front = goal-front (cost a.steps.now) a.d a.goal _ _ c.before.before.before.walk.ensures in
-    (p.3, omega (arith, p.0.most), goal-bits (cost a.steps.now) a.d _ _ p.4.word-is, goal-bits (cost a.steps.now) a.d _ _ front)
+    (p.3, omega (arith, p.0.most), goal-bits (cost a.steps.now) a.d _ _ p.4.word_is, goal-bits (cost a.steps.now) a.d _ _ front)
 
 same-length-3 : tie.Need-same-length-3
 same-length-3 c = search rules

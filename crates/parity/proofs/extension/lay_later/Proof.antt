@@ -41,7 +41,7 @@ loop-again c =
     let fit = c.before.before.before.before.before.before.before.before.before.before.before.before.requires.0 in
     let l = c.before.before.before.before.before.before.before.before.loop in
     let own = c.before.before.before.before.lay-own.ensures in
-    let more = begun_more _ _ _ _ _ _ _ _ _ fit.shape.z-some fit.some l.invariant.0 (search rules) l.invariant.2 l.invariant.3 own.0 in
+    let more = begun_more _ _ _ _ _ _ _ _ _ fit.shape.z_some fit.some l.invariant.0 (search rules) l.invariant.2 l.invariant.3 own.0 in
     (search rules, search rules, more, sums-all _ _ _ _ _ (omega arith) (omega arith) own.1)
 
 same_length : tie.Need-same-length invariant-loop decreases-loop

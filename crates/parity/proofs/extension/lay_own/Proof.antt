@@ -33,7 +33,7 @@ add-columns-requires c κs =
     let st = c.before.before.before.before.before.before.before.before.before.before in
     let run = c.before.before.before.before.copy-bits.ensures in
     let adding = st.requires.0 in
-    (record { shape = adding.shape; long = run.len ∙ adding.long; sums = sums_word _ _ _ _ _ _ adding.shape.z-some (own_same _ _ run) adding.sums }, omega arith, omega (arith, st.requires.2))
+    (record { shape = adding.shape; long = run.len ∙ adding.long; sums = sums_word _ _ _ _ _ _ adding.shape.z_some (own_same _ _ run) adding.sums }, omega arith, omega (arith, st.requires.2))
 
 same_length : tie.Need-same-length
 same_length c = search rules

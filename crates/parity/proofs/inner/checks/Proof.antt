@@ -29,12 +29,12 @@ array-borrow-prefix-many : tie.Need-array-borrow-prefix-many
 array-borrow-prefix-many c = search rules
 
 slice-aggregate-are-even-2 : tie.Need-slice-aggregate-are-even-2
-slice-aggregate-are-even-2 c = sym (length-take-le _ (replicate 3840 0) (omega (arith, c.before.before.before.before.requires.0.rows-most)))
+slice-aggregate-are-even-2 c = sym (length-take-le _ (replicate 3840 0) (omega (arith, c.before.before.before.before.requires.0.rows_most)))
 
 are-even-requires-2 : tie.Need-are-even-requires-2
 are-even-requires-2 c κs =
     let pre = c.before.before.before.before.requires in
-    record { shape = pre.0; long = pre.1; sums = sums-room _ _ _ _ _ 3840 (omega (arith, pre.0.rows-most)) }
+    record { shape = pre.0; long = pre.1; sums = sums-room _ _ _ _ _ 3840 (omega (arith, pre.0.rows_most)) }
 
 returns-2 : tie.Need-returns-2
 returns-2 c = search rules

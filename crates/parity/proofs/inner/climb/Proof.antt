@@ -13,7 +13,7 @@ use Rattle.parity.proofs.inner.climb.Tie as tie
 
 -- kb is one of the columns
 column-in : (c : tie.Start) → c.args.kb < c.args.columns
-column-in c = omega (arith, c.requires.0.wide, c.requires.0.shape.rows-some)
+column-in c = omega (arith, c.requires.0.wide, c.requires.0.shape.rows_some)
 
 -- the staircase's columns are among them
 end : (c : tie.Start) → (c.args.kb + 1) * c.args.z + (c.args.m - 1) * c.args.z ≤ c.args.columns * c.args.z
@@ -35,9 +35,9 @@ stacked c sums =
     record {
       size = omega (arith, sums.size, rows_in c);
       bits = sums.bits;
-      m-some = fit.some;
-      m-most = omega (arith, fit.shape.rows-most, fit.tall);
-      z-most = fit.shape.z-most;
+      m_some = fit.some;
+      m_most = omega (arith, fit.shape.rows_most, fit.tall);
+      z_most = fit.shape.z_most;
     }
 
 add-columns-requires : tie.Need-add-columns-requires
@@ -64,18 +64,18 @@ lay-first-requires c κs =
     )
 
 add-add-columns : tie.Need-overflow-add-add-columns
-add-add-columns c = let st = c.before.before.before.before.before.before.before.before.before.before.before.before.before in omega (arith, column-in st, st.requires.0.shape.columns-most)
+add-add-columns c = let st = c.before.before.before.before.before.before.before.before.before.before.before.before.before in omega (arith, column-in st, st.requires.0.shape.columns_most)
 
 add-columns-requires-2 : tie.Need-add-columns-requires-2
 add-columns-requires-2 c κs =
     let st = c.before.before.before.before.before.before.before.before.before.before.before.before.before.before.before in
     let fit = st.requires.0 in
     let laid = c.before.before.before.before.lay-first.ensures in
-    let sums = sums_word _ _ _ _ _ _ fit.shape.z-some (first-same _ _ _ _ _ laid) c.before.before.before.before.before.before.before.before.before.add-columns.ensures in
+    let sums = sums_word _ _ _ _ _ _ fit.shape.z_some (first-same _ _ _ _ _ laid) c.before.before.before.before.before.before.before.before.before.add-columns.ensures in
     (record { shape = fit.shape; long = laid.len ∙ fit.long; sums = sums }, omega arith, omega (arith, column-in st))
 
 add-lay-next : tie.Need-overflow-add-lay-next
-add-lay-next c = let st = c.before.before.before.before.before.before.before.before.before.before.before.before.before.before.before.before.before.before.before.before in omega (arith, column-in st, st.requires.0.shape.columns-most)
+add-lay-next c = let st = c.before.before.before.before.before.before.before.before.before.before.before.before.before.before.before.before.before.before.before.before in omega (arith, column-in st, st.requires.0.shape.columns_most)
 
 mul-lay-next : tie.Need-overflow-mul-lay-next
 mul-lay-next c = let st = c.before.before.before.before.before.before.before.before.before.before.before.before.before.before.before.before.before.before.before.before in omega (arith, end st, st.requires.0.long, st)
@@ -103,7 +103,7 @@ returns c =
     let sums' = c.before.before.before.before.before.before.before.add-columns2.ensures in
     let one = c.before.before.before.before.before.before.before.before.before.before.before.before.lay-first.ensures in
     let next = c.before.before.lay-next.ensures in
-    (laid_begun _ _ _ _ _ _ _ _ _ _ _ fit.shape.z-some fit.tall sums sums' one next fit.long, laid-sums _ _ _ _ _ _ _ _ _ _ _ fit.shape.z-some fit.tall sums sums' one next)
+    (laid_begun _ _ _ _ _ _ _ _ _ _ _ fit.shape.z_some fit.tall sums sums' one next fit.long, laid-sums _ _ _ _ _ _ _ _ _ _ _ fit.shape.z_some fit.tall sums sums' one next)
 
 pub climb-spec : {M : Type 1} → statement M
 climb-spec =

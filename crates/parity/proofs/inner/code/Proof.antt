@@ -32,12 +32,12 @@ array-borrow-prefix-many : tie.Need-array-borrow-prefix-many
 array-borrow-prefix-many c = search rules
 
 slice-aggregate-solve-2 : tie.Need-slice-aggregate-solve-2
-slice-aggregate-solve-2 c = sym (length-take-le _ (replicate 3840 0) (omega (arith, c.before.before.before.before.before.requires.shape.rows-most)))
+slice-aggregate-solve-2 c = sym (length-take-le _ (replicate 3840 0) (omega (arith, c.before.before.before.before.before.requires.shape.rows_most)))
 
 solve-requires-2 : tie.Need-solve-requires-2
 solve-requires-2 c κs =
     let pre = c.before.before.before.before.before.requires in
-    (pre, sums-room _ _ _ _ _ 3840 (omega (arith, pre.shape.rows-most)))
+    (pre, sums-room _ _ _ _ _ 3840 (omega (arith, pre.shape.rows_most)))
 
 same-length-2 : tie.Need-same-length-2
 same-length-2 c = search rules

@@ -25,7 +25,7 @@ mul-result c =
     let st = c.before.before.before.before.before in
     let R = st.args.profile.now in
     let some = size-some R st.args.z (λ q. c.if1.false (c.before.index_of.ensures ∙ q ∙ sym c.before.before.t.ensures.0)) in
-    omega (arith, mul-le-mul st.requires.1 (ready R st.args.z st.requires.0 some).shape.z-most)
+    omega (arith, mul-le-mul st.requires.1 (ready R st.args.z st.requires.0 some).shape.z_most)
 
 returns-2 : tie.Need-returns-2
 returns-2 c =

@@ -26,7 +26,7 @@ double-requires c κs =
     let st = c.before.before.before.before.before in
     let shape = st.requires.0.shape in
     let room = group_in st.args.j st.args.columns st.args.z st.requires.1 in
-    (shape.z-some, shape.z-most, omega (arith, room, st.requires.0.long), st.requires.2, st.requires.3)
+    (shape.z_some, shape.z_most, omega (arith, room, st.requires.0.long), st.requires.2, st.requires.3)
 
 loop-holds : tie.Need-loop-init invariant-loop decreases-loop
 loop-holds c = (c.before.before.before.before.before.before.before.before.requires.0.sums, search rules, search rules, search rules)
@@ -42,7 +42,7 @@ add-entry-requires c κs =
     let l = c.before.before.before.before.loop in
     let d = c.before.before.before.before.before.before.before.double in (
       st.requires.0.shape.shifts l.e,
-      st.requires.0.shape.z-most,
+      st.requires.0.shape.z_most,
       omega (arith, st.requires.2, d.auto.1.1.1.0),
       omega (arith, l.invariant.2, l.invariant.0.size),
       d.ensures.bits,
@@ -53,17 +53,17 @@ add_at : tie.Need-overflow-add-at invariant-loop decreases-loop
 add_at c =
     let st = c.before.before.before.before.before.before.before.before.before.before.before.before.before.before.before.before in
     let l = c.before.before.before.before.before.before.before.loop in
-    omega (arith, l.invariant.2, st.requires.0.shape.rows-most)
+    omega (arith, l.invariant.2, st.requires.0.shape.rows_most)
 
 add-e : tie.Need-overflow-add-e invariant-loop decreases-loop
 add-e c =
     let st = c.before.before.before.before.before.before.before.before.before.before.before.before.before.before.before.before in
     let l = c.before.before.before.before.before.before.before.loop in
     let shape = st.requires.0.shape in
-    omega (arith, group_in l.i st.args.rows st.args.columns (search rules), l.invariant.3, st.requires.1, shape.columns-most, mul-le-mul shape.rows-most shape.columns-most)
+    omega (arith, group_in l.i st.args.rows st.args.columns (search rules), l.invariant.3, st.requires.1, shape.columns_most, mul-le-mul shape.rows_most shape.columns_most)
 
 add-i : tie.Need-overflow-add-i invariant-loop decreases-loop
-add-i c = omega (arith, c.before.before.before.before.before.before.before.before.before.before.before.before.before.before.before.before.requires.0.shape.rows-most)
+add-i c = omega (arith, c.before.before.before.before.before.before.before.before.before.before.before.before.before.before.before.before.requires.0.shape.rows_most)
 
 loop-less : tie.Need-loop-smaller invariant-loop decreases-loop
 loop-less c = search rules

@@ -14,7 +14,7 @@ t-requires c κs = omega (arith, (header_is c.before.args.profile.now c.before.r
 offset-due-requires : tie.Need-offset-due-requires
 offset-due-requires c κs =
     let s = c.before.before in
-    (s.requires, omega (arith, (header_is s.args.profile.now s.requires).t-high))
+    (s.requires, omega (arith, (header_is s.args.profile.now s.requires).t_high))
 
 returns : tie.Need-returns
 unfolding ends_right

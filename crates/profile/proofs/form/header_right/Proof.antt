@@ -45,7 +45,7 @@ kind-requires : tie.Need-kind-requires
 kind-requires c κs = search rules
 
 kind-right-requires : tie.Need-kind-right-requires
-kind-right-requires c κs = (omega (arith, (ranges_are _ _ _ (right c.before.before)).m-high), search rules)
+kind-right-requires c κs = (omega (arith, (ranges_are _ _ _ (right c.before.before)).m_high), search rules)
 
 returns-3 : tie.Need-returns-3
 returns-3 c =

@@ -29,7 +29,7 @@ size-right-requires : tie.Need-size-right-requires invariant-loop decreases-loop
 size-right-requires c κs =
     let R = c.before.before.before.before.args.profile.now in
     let p = c.before.before.before.before.requires in
-    (p.0, pair-there R p.1 c.before.loop.i (search rules), omega (arith, (header_is R p.0).t-high))
+    (p.0, pair-there R p.1 c.before.loop.i (search rules), omega (arith, (header_is R p.0).t_high))
 
 returns : tie.Need-returns invariant-loop decreases-loop
 returns c =

@@ -11,7 +11,7 @@ z-requires c κs = (shape_is c.before.args.profile.now c.before.requires.0).pair
 cast-z : tie.Need-overflow-cast-z
 cast-z c =
     let s = c.before.before in
-    omega (arith, ((shape_is s.args.profile.now s.requires.0).size s.args.i s.requires.1).z-high)
+    omega (arith, ((shape_is s.args.profile.now s.requires.0).size s.args.i s.requires.1).z_high)
 
 table-requires : tie.Need-table-requires
 table-requires c κs = search rules

@@ -10,8 +10,8 @@ z-requires c κs = (accepted-shape c.before.args.profile.now c.before.requires.0
 returns : tie.Need-returns
 returns c =
     let known = accepted c.before.before.args.profile.now c.before.before.requires.0 in
-    let low = known.z-low c.before.before.args.i c.before.before.requires.1 in
-    let high = known.z-high c.before.before.args.i c.before.before.requires.1 in
+    let low = known.z_low c.before.before.args.i c.before.before.requires.1 in
+    let high = known.z_high c.before.before.args.i c.before.before.requires.1 in
     search rules
 
 pub z-spec : {M : Type 1} → statement M

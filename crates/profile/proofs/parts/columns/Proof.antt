@@ -4,7 +4,7 @@ use Prim.Native.Nat.{◌+◌}
 use native.Mathlib.Omega.{arith}
 use borrow.Author.Rules.{rules}
 use Rattle.profile.specs.Record.{columns}
-use Rattle.profile.proofs.Shape.{columns-is, header_is}
+use Rattle.profile.proofs.Shape.{columns_is, header_is}
 use Rattle.profile.proofs.parts.columns.Statement.{statement}
 use Rattle.profile.proofs.parts.columns.Tie as tie
 
@@ -22,8 +22,8 @@ returns c =
     let s = c.before.before.before in
     let R = s.args.profile.now in
     let h = header_is R s.requires in
-    let e : c.before.kb.result + c.rows.result ≡ columns R = cc (columns-is R) in
-    (e, omega (arith, h.columns-low), omega (arith, h.columns-high))
+    let e : c.before.kb.result + c.rows.result ≡ columns R = cc (columns_is R) in
+    (e, omega (arith, h.columns_low), omega (arith, h.columns_high))
 
 pub columns_spec : {M : Type 1} → statement M
 columns_spec = tie.close (tie.spec kb-requires rows-requires add-result returns)

@@ -23,7 +23,7 @@ returns c =
     let R = s.args.profile.now in
     let h = header_is R s.requires in
     let e : c.before.m.result + c.x.result ≡ rows R = cc (rows_is R) in
-    (e, omega (arith, h.rows-low), omega (arith, h.rows-high))
+    (e, omega (arith, h.rows_low), omega (arith, h.rows_high))
 
 pub rows-spec : {M : Type 1} → statement M
 rows-spec = tie.close (tie.spec m-requires x-requires add-result returns)

@@ -25,7 +25,7 @@ inside c =
     omega (arith, (shaped s).inside s.args.i s.requires.1)
 
 add-end : tie.Need-overflow-add-end
-add-end c = omega (arith, inside c, c.before.before.before.well-formed)
+add-end c = omega (arith, inside c, c.before.before.before.well_formed)
 
 sub-result : tie.Need-overflow-sub-result
 sub-result c = search rules

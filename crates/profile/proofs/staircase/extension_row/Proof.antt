@@ -13,7 +13,7 @@ inside : (c : tie.Start)
     × (length c.args.table.now ≤ 2400)
 inside c =
     let whole = row-whole c.requires.0 (c.args.m + c.args.i) (omega (arith, c.requires.1)) in
-    (omega (arith, whole, c.requires.0.columns-are, c.requires.1), whole.1)
+    (omega (arith, whole, c.requires.0.columns_are, c.requires.1), whole.1)
 
 add_row : tie.Need-overflow-add-row
 add_row c = omega (arith, inside c.before)

@@ -16,16 +16,16 @@ held c = column c.args.table.now c.args.columns c.args.kb
 first-entry-requires : tie.Need-first-entry-requires
 first-entry-requires c κs =
     let s = c.before in
-    omega (arith, row-stands s.requires 0 (omega (arith, s.requires.m-low)), s.requires.m-low)
+    omega (arith, row-stands s.requires 0 (omega (arith, s.requires.m_low)), s.requires.m_low)
 
 returns : tie.Need-returns
 returns c = first-empty _ (held c.before.before.before) (sym c.before.first_entry.ensures ∙ c.if1.true)
 
 next-filled-requires : tie.Need-next-filled-requires
-next-filled-requires c κs = (search rules, omega (arith, c.before.before.before.requires.m-low))
+next-filled-requires c κs = (search rules, omega (arith, c.before.before.before.requires.m_low))
 
 add-if2 : tie.Need-overflow-add-if2
-add-if2 c = omega (arith, c.next-filled.ensures.below, c.before.before.before.before.requires.m-high)
+add-if2 c = omega (arith, c.next-filled.ensures.below, c.before.before.before.before.requires.m_high)
 
 returns-2 : tie.Need-returns-2
 returns-2 c =
@@ -36,7 +36,7 @@ first-entry-requires-2 : tie.Need-first-entry-requires-2
 first-entry-requires-2 c κs =
     let s = c.before.before.before.before.before in
     let call = c.before.next-filled in
-    omega (arith, row-stands s.requires call.result call.ensures.below, s.requires.m-low)
+    omega (arith, row-stands s.requires call.result call.ensures.below, s.requires.m_low)
 
 -- the middle row is not the last
 inner : (c : tie.Else2) → suc c.before.next-filled.result < c.before.before.before.before.before.args.m
@@ -50,13 +50,13 @@ returns-3 c =
     (λ e. c.if3.true (c.before.first-entry2.ensures ∙ e))
 
 add-next-filled : tie.Need-overflow-add-next-filled
-add-next-filled c = omega (arith, inner c.before.before, c.before.before.before.before.before.before.before.requires.m-high)
+add-next-filled c = omega (arith, inner c.before.before, c.before.before.before.before.before.before.before.requires.m_high)
 
 next-filled-requires-2 : tie.Need-next-filled-requires-2
 next-filled-requires-2 c κs = (search rules, omega (arith, inner c.before.before))
 
 add-if4 : tie.Need-overflow-add-if4
-add-if4 c = omega (arith, c.next-filled2.ensures.below, c.before.before.before.before.before.before.before.before.requires.m-high)
+add-if4 c = omega (arith, c.next-filled2.ensures.below, c.before.before.before.before.before.before.before.before.requires.m_high)
 
 returns-4 : tie.Need-returns-4
 returns-4 c =
@@ -69,7 +69,7 @@ first-entry-requires-3 : tie.Need-first-entry-requires-3
 first-entry-requires-3 c κs =
     let s = c.before.before.before.before.before.before.before.before.before in
     let call = c.before.next-filled2 in
-    omega (arith, row-stands s.requires call.result call.ensures.below, s.requires.m-low)
+    omega (arith, row-stands s.requires call.result call.ensures.below, s.requires.m_low)
 
 returns-5 : tie.Need-returns-5
 returns-5 c =

@@ -10,7 +10,7 @@ use Rattle.profile.proofs.staircase.row_ends.Tie as tie
 inside : (c : tie.Start) → (c.args.row * c.args.columns + (c.args.kb + c.args.m) + c.args.x ≤ length c.args.table.now) × (length c.args.table.now ≤ 2400)
 inside c =
     let whole = row-whole c.requires.0 c.args.row (omega (arith, c.requires.1)) in
-    (omega (arith, whole, c.requires.0.columns-are), whole.1)
+    (omega (arith, whole, c.requires.0.columns_are), whole.1)
 
 mul-first : tie.Need-overflow-mul-first
 mul-first c = omega (arith, inside c.before)

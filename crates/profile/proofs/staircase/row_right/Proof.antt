@@ -14,13 +14,13 @@ place : (c : tie.Start) → c.args.row * c.args.columns + (c.args.kb + c.args.m)
 place c = row-stands c.requires.0 c.args.row c.requires.1
 
 mul-first : tie.Need-overflow-mul-first
-mul-first c = omega (arith, place c.before, c.before.well-formed)
+mul-first c = omega (arith, place c.before, c.before.well_formed)
 
 add-first : tie.Need-overflow-add-first
-add-first c = omega (arith, place c.before, c.before.well-formed)
+add-first c = omega (arith, place c.before, c.before.well_formed)
 
 add-first-2 : tie.Need-overflow-add-first-2
-add-first-2 c = omega (arith, place c.before, c.before.well-formed, c.before.requires.1)
+add-first-2 c = omega (arith, place c.before, c.before.well_formed, c.before.requires.1)
 
 before-right-requires : tie.Need-before-right-requires
 before-right-requires c κs = omega (arith, place c.before, c.before.requires.1)
@@ -41,7 +41,7 @@ returns-2 c =
     (sym c.before.before.before-right.ensures ∙ not-false _ c.before.if1.false)
 
 add-behind-right : tie.Need-overflow-add-behind-right
-add-behind-right c = omega (arith, place c.before.before.before.before, c.before.before.before.before.well-formed, c.before.before.before.before.requires.1)
+add-behind-right c = omega (arith, place c.before.before.before.before, c.before.before.before.before.well_formed, c.before.before.before.before.requires.1)
 
 add-behind-right-2 : tie.Need-overflow-add-behind-right-2
 add-behind-right-2 c = search rules
