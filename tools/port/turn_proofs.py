@@ -123,33 +123,109 @@ def turn_paths(text, names):
             else:
                 out.append(f)
             k += 1
-        # What is known at a place has each earlier step by its name too.
-        if root == "c" and out[0] == "before":
-            rest = out
-            while rest and rest[0] == "before":
-                rest = rest[1:]
-            out = rest or out
         return root + "".join("." + o for o in out)
 
     return re.sub(r"(" + TOKEN + r"|\))((?:\.[^\s(){}.;,@\"«»\[\]]+)+)", one, text)
 
 
-def turn_types(text, names, loops):
-    """A helper that is typed by a place of the code."""
+PLACED = re.compile(r"^(?:\(c : tie\.[^()]*\)|tie\.\S+(?: invariant-\S+ decreases-\S+)*)(?:\s*→)?\s*")
 
-    def one(match):
-        word = match.group(1)
-        kind = word[len("Need-") :] if word.startswith("Need-") else None
-        if kind is not None:
-            new = goal_of(names, kind)
-            return "goal." + new if new else match.group(0)
-        new = names.places.get(plain(word))
-        return "goal." + new if new else match.group(0)
 
-    text = re.sub(r"tie\.([^\s(){}.;,]+)", one, text)
-    for loop in loops:
-        text = text.replace(f" invariant-{loop} decreases-{loop}", "")
-    return text
+class Helper:
+    """A lemma or a value that is typed by a place of the code. What is known at a place is known under the same name at each later one, so where it is used
+    a value is written out, and a lemma stands as a `let`."""
+
+    def __init__(self, name, note, block, names):
+        lines = block.split("\n")
+        args, right, before = arguments(lines, name)
+        self.name, self.note = name, note
+        self.unfolding = [w for u in re.findall(r"(?m)^unfolding (.*)$", before) for w in u.split()]
+        kind = re.sub(r"(?m)^unfolding .*$", "", before)
+        kind = kind.split(" :", 1)[1].strip()
+        self.abbrev = block.startswith("abbrev")
+        self.place_only = re.fullmatch(r"tie\.\S+.* → tie\.\S+.*", kind) is not None
+        self.kind = flat(turn_paths(PLACED.sub("", kind, count=1).strip(), names))
+        self.arg, self.rest = args[0], args[1:]
+        self.right = right.strip("\n")
+        if self.arg != "c":
+            self.right = re.sub(r"(?<![^\s(){};,\[\]])" + re.escape(self.arg) + r"(?![^\s(){}.;,\[\]])", "c", self.right)
+
+    def let(self):
+        body = self.right.strip()
+        if self.unfolding:
+            body = "unfold " + " ".join(self.unfolding) + " in (" + body + ")"
+        if self.rest:
+            body = "λ " + " ".join(self.rest) + ". " + body
+        return f"let {self.name} : {self.kind} = {body} in"
+
+
+def flat(text):
+    """What is known at a place has each earlier step by its name too."""
+    return re.sub(r"(?<![^\s(){};,\[\]])c(?:\.before)+\.(?!before\b)", "c.", text)
+
+
+def turn_body(text, names, helpers):
+    """A right side, with the place that it stands at as the only one; and the lemmas that it uses, in the order in which they are told."""
+    text = turn_paths(text, names)
+    # A place that has a name of its own is that of `c`.
+    start = next((h.name for h in helpers.values() if h.place_only), None)
+    if start:
+        text = re.sub(r"\(" + start + r" (\w+)((?:\.before)*)\)", r"\1\2", text)
+        text = re.sub(r"(?<![^\s(){};,\[\]])" + start + r" (\w+)((?:\.before)*)(?![\w.])", r"\1\2", text)
+    while True:
+        m = re.search(r"let (\w+) = c(?:\.before)+ in ?\(?\s*", text)
+        if not m:
+            break
+        whole, alias = m.group(0), m.group(1)
+        rest = text[m.end() :]
+        opened = whole.rstrip().endswith("(")
+        if opened:
+            rest = "(" + rest
+        text = text[: m.start()] + re.sub(r"(?<![^\s(){};,\[\]])" + alias + r"(?![^\s(){}.;,\[\]])", "c", rest)
+    text = flat(text)
+    used = []
+    for name, h in helpers.items():
+        if h.place_only:
+            continue
+        call = re.compile(r"(?<![^\s(){};,\[\]])" + re.escape(name) + r" (?:c(?:\.before)*|\(c(?:\.before)*\))(?![\w.])")
+        if call.search(text):
+            used.append(name)
+            if h.abbrev and not h.rest:
+                inner, more = turn_body(h.right, names, {k: v for k, v in helpers.items() if k != name})
+                used = [u for u in used if u != name] + [u for u in more if u not in used]
+                value = inner.strip()
+                text = re.sub(r"\(" + call.pattern + r"\)", lambda m: "(" + value + ")", text)
+                text = call.sub(lambda m: value if re.fullmatch(r"[^\s]+", value) else "(" + value + ")", text)
+            else:
+                text = re.sub(r"\(" + call.pattern + r"\)", name, text)
+                text = call.sub(name, text)
+    return text, used
+
+
+def with_lets(text, names, helpers):
+    text, used = turn_body(text, names, helpers)
+    lets, seen = [], []
+
+    def need(name):
+        if name in seen:
+            return
+        seen.append(name)
+        h = helpers[name]
+        others = {k: v for k, v in helpers.items() if k != name}
+        body, more = turn_body(h.right, names, others)
+        kind, kinds = turn_body(h.kind, names, others)
+        for m in more + kinds:
+            need(m)
+        done = Helper.__new__(Helper)
+        done.__dict__.update(h.__dict__, right=body, kind=kind)
+        lets.append(done.let())
+
+    for name in used:
+        need(name)
+    if not lets:
+        return text
+    body = text if text.startswith("\n") else "\n    " + text.strip()
+    return "\n    " + "\n    ".join(lets) + body
 
 
 def goal_of(names, kind):
@@ -167,7 +243,7 @@ def turn(path, module, table):
     names = Names(table)
     head, uses, found = blocks(text)
     uses = [u for u in uses if ".Statement." not in u and not u.endswith(".Tie as tie")]
-    invariants, answers, helpers, loops = [], [], [], []
+    invariants, answers, loops, placed, own = [], [], [], {}, []
     order = {new: k for k, new in enumerate(names.order)}
     by_new = {}
     table_loops = {}
@@ -200,15 +276,25 @@ def turn(path, module, table):
             by_new[new] = (note, new, unfolds, right, len(answers), args[0])
             answers.append(("need", new))
             continue
-        answers.append(("helper", (note, name, block)))
-    out = []
-    for kind, what in answers:
-        if kind == "helper":
-            note, name, block = what
-            out.append("\n".join(note + [turn_paths(turn_types(block, names, loops), names)]))
+        if " : tie." in typed or "(c : tie." in typed or re.search(r"(?m)^ +\S+ : tie\.", typed):
+            placed[name] = Helper(name, note, block, names)
         else:
+            own.append((note, name, block))
+    out = []
+    texts = "\n".join(b for _, b in invariants)
+    shared = [n for _, n, b in own if re.search(r"(?<![^\s(){};,\[\]])" + re.escape(n) + r"(?![^\s(){}.;,\[\]])", texts)]
+    for note, name, block in own:
+        if name in shared:
+            block = re.sub(r"^(?:abbrev )?(?=" + re.escape(name) + " :)", "abbrev pub ", block)
+            invariants.insert(shared.index(name), (note, block))
+        else:
+            out.append("\n".join(note + [block]))
+    for kind, what in answers:
+        if kind == "need":
             note, new, unfolding, right, _, arg = by_new[what]
-            right = turn_paths(turn_types(right, names, loops), names)
+            if arg != "c":
+                return f"{path}: the first argument of {new} is {arg}"
+            right = with_lets(right, names, placed)
             out.append("\n".join(note + [f"pub {new} : goal.{new}"] + unfolding + [f"{new} {arg} ={right}"]))
     folder = os.path.dirname(path)
     comment = [h for h in head]
@@ -221,7 +307,8 @@ def turn(path, module, table):
     needs = [o for k, o in answers if k == "need"]
     if needs:
         with open(os.path.join(folder, "Answers.antt"), "w", encoding="utf-8") as f:
-            f.write("\n".join(([] if invariants else comment) + uses + [f"use {module}.Goals as goal", ""]) + "\n" + "\n\n".join(out) + "\n")
+            kept = [f"use {module}.Invariants.{{{', '.join(shared)}}}"] if shared else []
+            f.write("\n".join(([] if invariants else comment) + uses + kept + [f"use {module}.Goals as goal", ""]) + "\n" + "\n\n".join(out) + "\n")
     if not os.listdir(folder):
         os.removedirs(folder)
     return None
