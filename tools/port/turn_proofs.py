@@ -104,6 +104,9 @@ def turn_paths(text, names):
         k = 0
         while k < len(chain):
             f = chain[k]
+            # The kit's script took some steps for words of its library.
+            if plain(f) not in names.steps and f.endswith("_lem") and plain(f[:-4]) in names.steps:
+                f = f[:-4]
             if (k == 0 or chain[k - 1] == "before") and plain(f) in names.steps and f not in ("before", "args", "requires"):
                 out.append(names.steps[plain(f)])
                 step = plain(f)

@@ -1,5 +1,6 @@
 // The checksums of section 5.1.1, of single bits and of packed octets, for each of the three widths.
 #![tactic(auto)]
+
 pub mod inner;
 mod register;
 mod table;
