@@ -98,9 +98,16 @@ class Names:
 def turn_paths(text, names):
     """Each chain of fields: the steps by their new names, a test's raw fact, and the new value of a lent argument by the argument's name."""
 
+    # A step that has a name of its own.
+    named = {}
+    for alias, chain in re.findall(r"let (\w+) = \w+((?:\.[^\s(){}.;,@\"«»\[\]]+)+) in", text):
+        last = plain(chain.split(".")[-1])
+        if last in names.steps:
+            named[alias] = last
+
     def one(match):
         root, chain = match.group(1), match.group(2).split(".")[1:]
-        out, step = [], None
+        out, step = [], named.get(root)
         k = 0
         while k < len(chain):
             f = chain[k]
@@ -149,6 +156,24 @@ class Helper:
         self.place_only = re.fullmatch(r"tie\.\S+.* → tie\.\S+.*", kind) is not None
         self.kind = flat(turn_paths(PLACED.sub("", kind, count=1).strip(), names))
         self.arg, self.rest = args[0], args[1:]
+        # A `let` has no implicit arguments.
+        self.hidden = 0
+        while self.kind.startswith("{"):
+            group, self.kind = self.kind[1:].split("}", 1)
+            self.kind = f"({group})" + self.kind
+            self.kind = re.sub(r"\)\s*\{", ") {", self.kind, count=1)
+            mine = group.split(" :")[0].split()
+            self.rest[self.hidden : self.hidden] = mine
+            self.hidden += len(mine)
+            done, _, left = self.kind.partition(") {")
+            if not left:
+                break
+            inner, self.kind = ("{" + left).split("}", 1)
+            more = inner[1:]
+            names_more = more.split(" :")[0].split()
+            self.rest[self.hidden : self.hidden] = names_more
+            self.hidden += len(names_more)
+            self.kind = done + f") ({more})" + self.kind
         self.right = right.strip("\n")
         if self.arg != "c":
             self.right = re.sub(r"(?<![^\s(){};,\[\]])" + re.escape(self.arg) + r"(?![^\s(){}.;,\[\]])", "c", self.right)
@@ -200,8 +225,9 @@ def turn_body(text, names, helpers):
                 text = re.sub(r"\(" + call.pattern + r"\)", lambda m: "(" + value + ")", text)
                 text = call.sub(lambda m: value if re.fullmatch(r"[^\s]+", value) else "(" + value + ")", text)
             else:
-                text = re.sub(r"\(" + call.pattern + r"\)", name, text)
-                text = call.sub(name, text)
+                called = name + " _" * h.hidden
+                text = re.sub(r"\(" + call.pattern + r"\)", name if not h.hidden else f"({called})", text)
+                text = call.sub(called, text)
     return text, used
 
 
