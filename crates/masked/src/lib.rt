@@ -1,5 +1,6 @@
 // Checksums of single bits under a mask (document 02, CR 9), for broadcast and control words: the sum, a word with it appended, and the test of a word.
 #![tactic(auto)]
+
 ghost use Rattle.std.specs.Prelude.{◌≡◌, cond, ◌&&◌, ◌++◌, ◌+◌, ◌-◌, ◌≤◌, eqb, leb, ltb, length, drop};
 ghost use Rattle.std.proofs.lemmas.List.Edits.{sets};
 ghost use Rattle.bits.specs.Bits.{AreBits, digits, value_of};

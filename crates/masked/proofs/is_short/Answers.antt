@@ -1,27 +1,22 @@
--- `masked::is_short` meets its contract.
 use mathlib.Core.Path.{sym}
 use Prim.Native.Nat.{◌+◌, ◌-◌, ◌<◌}
 use native.Mathlib.Omega.{arith}
 use borrow.Author.Tests.{ltb-true, lt-ltb}
 use lib.Dec.{ltb}
 use Rattle.bits.proofs.Ranges.{either_way}
-use Rattle.masked.proofs.is_short.Statement.{statement}
-use Rattle.masked.proofs.is_short.Tie as tie
+use Rattle.masked.proofs.is_short.Goals as goal
 
-returns : tie.Need-returns
-returns c =
-    let a = c.before.args in
+pub returns-then-lent-n : goal.returns-then-lent-n
+returns-then-lent-n c =
+    let a = c.args in
     let h : a.lent < a.n + a.width = omega arith in
     sym (lt-ltb a.lent (a.n + a.width) h)
 
-returns-2 : tie.Need-returns-2
-returns-2 c =
-    let a = c.before.args in
+pub returns : goal.returns
+returns c =
+    let a = c.args in
     let left = a.lent - a.n in
     let all = a.n + a.width in
     either_way (ltb left a.width) (ltb a.lent all)
     (λ e. lt-ltb a.lent all (omega (arith, ltb-true left a.width e)))
     (λ e. lt-ltb left a.width (omega (arith, ltb-true a.lent all e)))
-
-pub is-short-spec : {M : Type 1} → statement M
-is-short-spec = tie.close (tie.spec returns returns-2)

@@ -1,4 +1,4 @@
--- `masked::put_word` meets its contract: what is laid and then put is written as one list.
+-- what is laid and then put is written as one list.
 use mathlib.Core.Path.{◌≡◌, sym, ap₂, ◌∙◌}
 use mathlib.Core.List.{List, ◌++◌}
 use Prim.Native.Nat.{ℕ, ◌+◌, ◌≤◌}
@@ -11,8 +11,7 @@ use Rattle.bits.specs.Bits.{digits}
 use Rattle.bits.specs.Steps.Places.{Laid}
 use Rattle.bits.proofs.Laid.{laid-over}
 use Rattle.bits.proofs.Lists.{sets-append}
-use Rattle.masked.proofs.put_word.Statement.{statement}
-use Rattle.masked.proofs.put_word.Tie as tie
+use Rattle.masked.proofs.put_word.Goals as goal
 
 -- the whole of s, laid over the front of a
 laid-all : (s a b : List ℕ) → length s ≤ length a → Laid s 0 (length s) a 0 b → b ≡ sets a 0 s
@@ -23,24 +22,12 @@ laid-all s a b h l =
     laid-over s a b n all h l
     ∙ ap₂ (λ (x : List ℕ) (k : ℕ). x ++ drop k a) (take_all n s (omega arith)) (sym (zero-add n)) ∙ sym (sets-eq s a 0 room)
 
-lay-requires : tie.Need-lay-requires
-lay-requires c κs = search rules
-
-put-number-requires : tie.Need-put-number-requires
-put-number-requires c κs = search rules
-
-same_length : tie.Need-same-length
-same_length c = search rules
-
-returns : tie.Need-returns
+pub returns : goal.returns
 returns c =
-    let a = c.before.before.before.before.before.before.before.before.before.before.args in
+    let a = c.args in
     let s = a.bits.now in
     let out = a.out.now in
-    let lay = c.before.before.before.before.before.before.lay in
-    let first = laid-all s out lay.new.1.1.0 (search rules) lay.ensures in
+    let lay = c.lay in
+    let first = laid-all s out lay.new.out (search rules) lay.ensures in
     let both = sets-append out 0 s (digits a.w a.sum) in
     cc (first, both, zero-add (length s))
-
-pub put-word-spec : {M : Type 1} → statement M
-put-word-spec = tie.close (tie.spec lay-requires put-number-requires same_length returns)
