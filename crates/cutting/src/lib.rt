@@ -1,5 +1,6 @@
 // Steps 1 to 3 of document 01: how a transport block is cut into code blocks, its transport bits, and each block's places.
 #![tactic(auto)]
+
 mod cut;
 pub mod inner;
 
