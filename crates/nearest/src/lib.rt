@@ -1,5 +1,6 @@
 // The nearest control word (document 02, CR 10): the word of d bits whose tail-biting code differs in the fewest places from three streams that were heard.
 #![tactic(auto)]
+
 mod gate;
 mod goals;
 mod prices;
