@@ -1,5 +1,6 @@
 // Checking one word of bits, by the quick checker or by the plain one, and the sums of its rows.
 #![tactic(auto)]
+
 mod gate;
 pub mod inner;
 mod plain;
