@@ -260,7 +260,10 @@ def with_lets(text, names, helpers):
 def goal_of(names, kind):
     """A need's new name; the kit's first script put before some the kind of the goal, as overflow or nonzero."""
     kind = plain(kind)
-    for name in (kind, re.sub(r"^(overflow|nonzero)_", "", kind)):
+    short = re.sub(r"^(overflow|nonzero)_", "", kind)
+    # And it took a function whose name ends as a loop's goals did for a loop.
+    whole = re.sub(r"_init\b", "_holds", re.sub(r"_smaller\b", "_less", re.sub(r"_preserved\b", "_again", kind)))
+    for name in (kind, short, whole):
         if name in names.needs:
             return names.needs[name]
     return next((new for new in names.order if plain(new) == kind), None)
