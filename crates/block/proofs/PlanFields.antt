@@ -8,7 +8,7 @@ use lib.ListN.{length, take, drop}
 use Rattle.bits.specs.Bits.{AreBits, with_filler}
 use Rattle.bits.proofs.Lists.{bits-take, bits-drop, length_part}
 use Rattle.bits.proofs.Filler.{length-filled}
-use Rattle.profile.specs.Record.{kb, m, z, rows, columns, table}
+use Rattle.profile.specs.Record.{kb, m, rows, columns, table}
 use Rattle.profile.proofs.Shape.{columns_is}
 use Rattle.cutting.specs.Plan.{size_index}
 use Rattle.cutting.specs.Cutting.{with_sum}
