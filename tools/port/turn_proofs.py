@@ -76,10 +76,12 @@ class Names:
         for old, new in table["needs"]:
             self.needs.setdefault(plain(old), new)
         self.order = [new for _, new in table["needs"]]
-        self.steps, self.fields = {}, {}
+        self.steps, self.fields, self.raw = {}, {}, {}
         for place in table["places"]:
             old, new = place[2]
             # A lent variable that came back is no step that a proof names.
+            if old:
+                self.raw.setdefault(plain(old), new)
             if old and ("known" in old or not re.fullmatch(re.escape(old) + r"-\d+", new)):
                 self.steps.setdefault(plain(old), new)
             for a, b in place[4]:
@@ -117,6 +119,8 @@ def turn_paths(text, names):
             if (k == 0 or chain[k - 1] == "before") and plain(f) in names.steps and f not in ("before", "args", "requires"):
                 out.append(names.steps[plain(f)])
                 step = plain(f)
+            elif k + 1 < len(chain) and chain[k + 1] == "given" and plain(f) in names.raw:
+                out.append(names.raw[plain(f)])
             elif step is not None and (step, f) in names.fields:
                 out.append(names.fields[(step, f)])
             elif f in ("new", "auto") and step is not None and names.steps[step] in names.callee:
