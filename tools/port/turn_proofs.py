@@ -45,6 +45,34 @@ def blocks(text):
     return head, uses, [(n, c, "\n".join(b).rstrip()) for n, c, b in found]
 
 
+def without_modules(text):
+    """A module over a place of the code, as declarations that each take the place."""
+    while True:
+        m = re.search(r"(?m)^module _ \((c : tie\.[^()]*)\) where\n((?:(?:  .*)?\n)+)", text)
+        if not m:
+            return text
+        place = m.group(1)
+        inside = "\n".join(line[2:] if line.startswith("  ") else line for line in m.group(2).split("\n"))
+        names = re.findall(r"(?m)^(?:abbrev |pub )*([^\s(){}:;,.]+) :(?= )", inside)
+        out = []
+        for line in inside.split("\n"):
+            head = re.match(r"^((?:abbrev |pub )*([^\s(){}:;,.]+) :) (.*)$", line)
+            name = head.group(2) if head else None
+            start = re.match(r"^(\S+)((?: \S+)*?) =(?= |$)(.*)$", line)
+            lead, rest = "", line
+            if head:
+                lead, rest = f"{head.group(1)} ({place}) → ", head.group(3)
+            elif start and start.group(1) in names:
+                lead, rest = f"{start.group(1)} c{start.group(2)} =", start.group(3)
+            if line.startswith("unfolding "):
+                out.append(line)
+                continue
+            for n in names:
+                rest = re.sub(r"(?<![^\s(){};,\[\]])" + re.escape(n) + r"(?![^\s(){}.;,\[\]])", f"({n} c)", rest)
+            out.append(lead + rest)
+        text = text[: m.start()] + "\n".join(out) + "\n" + text[m.end() :]
+
+
 def arguments(lines, name):
     """A definition's arguments and its right side, from the line that defines it."""
     text = "\n".join(lines)
@@ -113,6 +141,10 @@ def turn_paths(text, names):
         k = 0
         while k < len(chain):
             f = chain[k]
+            # A fact that every function has takes this name before a call does.
+            m = re.fullmatch(r"well_formed(\d*)", plain(f))
+            if m and "well_formed" not in names.steps and k + 1 < len(chain) and chain[k + 1] in ("ensures", "result", "new", "auto"):
+                f = f"well_formed{int(m.group(1) or 1) + 1}"
             # The kit's script took some steps for words of its library.
             if plain(f) not in names.steps and f.endswith("_lem") and plain(f[:-4]) in names.steps:
                 f = f[:-4]
@@ -121,6 +153,11 @@ def turn_paths(text, names):
                 step = plain(f)
             elif k + 1 < len(chain) and chain[k + 1] == "given" and plain(f) in names.raw:
                 out.append(names.raw[plain(f)])
+            elif step is not None and step.startswith("if") and f in ("taken", "left"):
+                f = "true" if f == "taken" else "false"
+                out.append(names.fields.get((step, f), f))
+            elif f == "pre" and all(x == "before" for x in out):
+                out.append("requires")
             elif step is not None and (step, f) in names.fields:
                 out.append(names.fields[(step, f)])
             elif f in ("new", "auto") and step is not None and names.steps[step] in names.callee:
@@ -157,7 +194,7 @@ class Helper:
         kind = re.sub(r"(?m)^unfolding .*$", "", before)
         kind = kind.split(" :", 1)[1].strip()
         self.abbrev = block.startswith("abbrev")
-        self.place_only = re.fullmatch(r"tie\.\S+.* → tie\.\S+.*", kind) is not None
+        self.place_only = re.fullmatch(r"(?:tie\.\S+.*|\(c : tie\.[^()]*\)) → tie\.\S+[^→]*", kind, re.S) is not None
         self.kind = flat(turn_paths(PLACED.sub("", kind, count=1).strip(), names))
         self.arg, self.rest = args[0], args[1:]
         # A `let` has no implicit arguments.
@@ -200,20 +237,22 @@ def turn_body(text, names, helpers):
     """A right side, with the place that it stands at as the only one; and the lemmas that it uses, in the order in which they are told."""
     text = turn_paths(text, names)
     # A place that has a name of its own is that of `c`.
-    start = next((h.name for h in helpers.values() if h.place_only), None)
-    if start:
-        text = re.sub(r"\(" + start + r" (\w+)((?:\.before)*)\)", r"\1\2", text)
-        text = re.sub(r"(?<![^\s(){};,\[\]])" + start + r" (\w+)((?:\.before)*)(?![\w.])", r"\1\2", text)
+    starts = [h.name for h in helpers.values() if h.place_only]
     while True:
-        m = re.search(r"let (\w+) = c(?:\.before)+ in ?\(?\s*", text)
-        if not m:
+        before = text
+        for start in starts:
+            text = re.sub(r"\(" + start + r" (\w+)((?:\.before)*)\)", r"\1\2", text)
+            text = re.sub(r"(?<![^\s(){};,\[\]])" + start + r" (c)((?:\.before)*)(?![\w.])", r"\1\2", text)
+        m = re.search(r"let (\w+) = c(?:\.before)* in ?\(?\s*", text)
+        if m:
+            whole, alias = m.group(0), m.group(1)
+            rest = text[m.end() :]
+            if whole.rstrip().endswith("("):
+                rest = "(" + rest
+            text = text[: m.start()] + re.sub(r"(?<![^\s(){};,\[\]])" + alias + r"(?![^\s(){}.;,\[\]])", "c", rest)
+        text = re.sub(r"\(c((?:\.before)*)\)(?=\.)", r"c\1", text)
+        if text == before:
             break
-        whole, alias = m.group(0), m.group(1)
-        rest = text[m.end() :]
-        opened = whole.rstrip().endswith("(")
-        if opened:
-            rest = "(" + rest
-        text = text[: m.start()] + re.sub(r"(?<![^\s(){};,\[\]])" + alias + r"(?![^\s(){}.;,\[\]])", "c", rest)
     text = flat(text)
     used = []
     for name, h in helpers.items():
@@ -277,7 +316,7 @@ def turn(path, module, table):
     with open(path, encoding="utf-8") as f:
         text = f.read()
     names = Names(table)
-    head, uses, found = blocks(text)
+    head, uses, found = blocks(without_modules(text))
     uses = [u for u in uses if ".Statement." not in u and not u.endswith(".Tie as tie")]
     invariants, answers, loops, placed, own = [], [], [], {}, []
     order = {new: k for k, new in enumerate(names.order)}
