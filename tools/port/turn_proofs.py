@@ -36,6 +36,10 @@ def blocks(text):
         elif line.startswith("--"):
             note.append(line)
             current = None
+        elif line.startswith("module "):
+            current = ["module", note, [line]]
+            note = []
+            found.append(current)
         elif HEAD.match(line):
             current = [HEAD.match(line).group(1), note, [line]]
             note = []
@@ -179,7 +183,7 @@ def turn_paths(text, names):
     return re.sub(r"(" + TOKEN + r"|\))((?:\.[^\s(){}.;,@\"«»\[\]]+)+)", one, text)
 
 
-PLACED = re.compile(r"^(?:\(c : tie\.[^()]*\)|tie\.\S+(?: invariant-\S+ decreases-\S+)*)(?:\s*→)?\s*")
+PLACED = re.compile(r"^(?:\(\w+ : tie\.[^()]*\)|tie\.\S+(?: invariant-\S+ decreases-\S+)*)(?:\s*→)?\s*")
 
 
 class Helper:
@@ -193,8 +197,11 @@ class Helper:
         self.unfolding = [w for u in re.findall(r"(?m)^unfolding (.*)$", before) for w in u.split()]
         kind = re.sub(r"(?m)^unfolding .*$", "", before)
         kind = kind.split(" :", 1)[1].strip()
+        bound = re.match(r"\((\w+) : tie\.", kind)
+        if bound and bound.group(1) != "c":
+            kind = re.sub(r"(?<![^\s(){};,\[\]])" + bound.group(1) + r"(?![^\s(){}.;,\[\]])", "c", kind)
         self.abbrev = block.startswith("abbrev")
-        self.place_only = re.fullmatch(r"(?:tie\.\S+.*|\(c : tie\.[^()]*\)) → tie\.\S+[^→]*", kind, re.S) is not None
+        self.place_only = re.fullmatch(r"(?:tie\.\S+.*|\(\w+ : tie\.[^()]*\)) → tie\.\S+[^→]*", kind, re.S) is not None
         self.kind = flat(turn_paths(PLACED.sub("", kind, count=1).strip(), names))
         self.arg, self.rest = args[0], args[1:]
         # A `let` has no implicit arguments.
@@ -351,7 +358,7 @@ def turn(path, module, table):
             by_new[new] = (note, new, unfolds, right, len(answers), args[0])
             answers.append(("need", new))
             continue
-        if " : tie." in typed or "(c : tie." in typed or re.search(r"(?m)^ +\S+ : tie\.", typed):
+        if " : tie." in typed or re.search(r" : \(\w+ : tie\.", typed) or re.search(r"(?m)^ +\S+ : tie\.", typed):
             placed[name] = Helper(name, note, block, names)
         else:
             own.append((note, name, block))
