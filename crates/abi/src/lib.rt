@@ -1,4 +1,4 @@
-// The library for C and Rust: every public call under a name that a linker finds, over numbers, octets and structs that lie in memory as C's do. Nothing is
+// The library for C and Rust: every public call under the name that `abi_c` exports, over numbers, octets and structs that lie in memory as C's do. Nothing is
 // decided here: each function answers what the call below promises. include/kuambyte.h says it to C, rust/kuambyte to Rust.
 #![tactic(auto)]
 
