@@ -20,7 +20,7 @@ const MOST: usize = 65535;
 // Where the record lies that a tenant is given: on which shelf, from which octet on, and how many octets it has. With a refusal it is the empty stretch at the
 // start of the public shelf.
 #[repr(C)]
-#[derive(Drop)]
+#[derive(Clone, Copy)]
 pub struct Stretch {
     pub number: u32,
     pub shelf: u32,

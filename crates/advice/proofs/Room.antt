@@ -16,7 +16,7 @@ use Rattle.bits.proofs.Sums.{sum_same, sum_le, sum_const}
 use Rattle.profile.specs.Record.{z, rows}
 use Rattle.cutting.specs.Plan.{block_bits, sum_bits, blocks, own_bits, carried_bits, size_index}
 use Rattle.cutting.proofs.Plans.{Cut}
-use Rattle.cutting.proofs.Rounding.{below, own_parts, own-sum, parts_sum, parts_own}
+use Rattle.cutting.proofs.Rounding.{below, own_parts, own_sum, parts_sum, parts_own}
 use Rattle.coding.specs.Blocks.{sendable}
 use Rattle.coding.specs.Allocation.{symbol_places, spare, share}
 use Rattle.coding.specs.Receiving.{some_without_room}
@@ -119,7 +119,7 @@ module _ (R : List ℕ) (octets : ℕ) (terms : Terms) (cut : Cut R terms.editio
 
     each-some : (r : ℕ) → 1 ≤ each r
     unfolding places_for
-    each-some r = ceil-some (sendable R ed b r) (place_bits terms) some (omega (arith, sendable-is r, cut.own-some r))
+    each-some r = ceil-some (sendable R ed b r) (place_bits terms) some (omega (arith, sendable-is r, cut.own_some r))
 
     all-some : c ≤ all
     unfolding places_for_all
@@ -167,7 +167,7 @@ module _ (R : List ℕ) (octets : ℕ) (terms : Terms) (cut : Cut R terms.editio
           by_value : (v : Bool) → any_below c (lacks k) ≡ v → any_below c (lacks k) ≡ true
           by_value true e = e
           by_value false e =
-              absurd (omega (arith, h, sum_le c (places_for R b terms) (own_bits k c) (λ r l. taken r (none_any c (lacks k) e r l)), own-sum k c cut.some))
+              absurd (omega (arith, h, sum_le c (places_for R b terms) (own_bits k c) (λ r l. taken r (none_any c (lacks k) e r l)), own_sum k c cut.some))
 
       pub room-below : room_at R octets terms k ≡ false
       unfolding room_at has_room

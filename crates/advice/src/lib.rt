@@ -1,4 +1,5 @@
 // What to ask for where bits were refused with 10 or 13: the least G with which every block has room.
+#![tactic(auto)]
 ghost use Rattle.std.specs.Prelude.{◌≡◌};
 ghost use Rattle.bits.specs.Steps.Counting.{Usable};
 ghost use Rattle.cutting.specs.Steps.Plans.{PlanOf};
@@ -13,7 +14,7 @@ use cutting::Plan;
 
 // The least allocation, all 0 with a refusal.
 #[repr(C)]
-#[derive(Drop)]
+#[derive(Clone, Copy)]
 pub struct Least {
     pub number: u32,
     // G.

@@ -8,8 +8,8 @@ use lib.ListN.{length, take, drop}
 use Rattle.bits.specs.Bits.{AreBits, with_filler}
 use Rattle.bits.proofs.Lists.{bits-take, bits-drop, length_part}
 use Rattle.bits.proofs.Filler.{length-filled}
-use Rattle.profile.specs.Record.{kb, m, z, rows, columns, table}
-use Rattle.profile.proofs.Shape.{columns-is}
+use Rattle.profile.specs.Record.{kb, m, rows, columns, table}
+use Rattle.profile.proofs.Shape.{columns_is}
 use Rattle.cutting.specs.Plan.{size_index}
 use Rattle.cutting.specs.Cutting.{with_sum}
 use Rattle.cutting.specs.declared.Plan.{Plan}
@@ -27,20 +27,20 @@ use Rattle.matching.proofs.Stretch.{word-filled}
 
 module _ (R : List ℕ) {ed : ℕ} (p : Plan) (k : PlanFields R ed p) where
   pub shape_here : Shape (table R p.index) (rows R) (columns R) p.z
-  shape_here = rw (k.z-is, k.index_is) (table-shape R k.accepted (size_index R ed p.bits) k.cut.size)
+  shape_here = rw (k.z_is, k.index_is) (table-shape R k.accepted (size_index R ed p.bits) k.cut.size)
 
   pub stairs_here : Solvable (table R p.index) (kb R) (m R) (rows R) (columns R)
   stairs_here = rw k.index_is (table-stairs R k.accepted (size_index R ed p.bits) k.cut.size)
 
   pub codable_here : (w : List ℕ) → length w ≡ columns R * p.z → Codable (table R p.index) (kb R) (m R) (rows R) (columns R) p.z w
-  codable_here w long = rw (k.z-is, k.index_is) (table-codable R k.accepted (size_index R ed p.bits) k.cut.size w (rw k.z-is at long))
+  codable_here w long = rw (k.z_is, k.index_is) (table-codable R k.accepted (size_index R ed p.bits) k.cut.size w (rw k.z_is at long))
 
   -- the coded block is longer than its systematic places
   pub word_room : p.places < columns R * p.z
   word_room =
-      let more : p.z ≤ p.z * rows R = le-mul_of_pos_right p.z (omega (arith, k.cut.known.rows-low)) in
-      let wide : columns R * p.z ≡ (kb R + rows R) * p.z = ap (λ (n : ℕ). n * p.z) (columns-is R) in
-      omega (arith, places-product R p k, wide, add-mul (kb R) (rows R) p.z, mul_comm p.z (rows R), more, shape_here.z-some)
+      let more : p.z ≤ p.z * rows R = le-mul_of_pos_right p.z (omega (arith, k.cut.known.rows_low)) in
+      let wide : columns R * p.z ≡ (kb R + rows R) * p.z = ap (λ (n : ℕ). n * p.z) (columns_is R) in
+      omega (arith, places-product R p k, wide, add-mul (kb R) (rows R) p.z, mul_comm p.z (rows R), more, shape_here.z_some)
 
 -- ---- the coded word of one block
 

@@ -13,7 +13,7 @@ use Rattle.bits.proofs.Ranges.{both, either_way}
 use Rattle.bits.proofs.Listed.{length_list, at_list}
 use Rattle.bits.proofs.Filler.{length-filled}
 use Rattle.profile.specs.Record.{kb, m, rows, columns, table}
-use Rattle.profile.proofs.Shape.{columns-is}
+use Rattle.profile.proofs.Shape.{columns_is}
 use Rattle.cutting.specs.declared.Plan.{Plan}
 use Rattle.cutting.specs.Steps.Plans.{SomePlan, sum_holds}
 use Rattle.cutting.proofs.PlanFields.{some-fields, places-product}
@@ -267,7 +267,7 @@ module _ (R : List ℕ) (p : Plan) (h : SomePlan R p) (s : List ℕ) (own from :
   planned-so =
       let k = some-fields R p h in
       let product : p.places ≡ kb R * p.z = places-product R p k in
-      let wide : columns R * p.z ≡ (kb R + rows R) * p.z = ap (λ (n : ℕ). n * p.z) (columns-is R) in
+      let wide : columns R * p.z ≡ (kb R + rows R) * p.z = ap (λ (n : ℕ). n * p.z) (columns_is R) in
       let behind : columns R * p.z - kb R * p.z ≡ rows R * p.z = omega (arith, wide, add-mul (kb R) (rows R) p.z) in
       let some : 0 < rows R * p.z = omega (arith, word_room R p k, behind, product) in
       let law = heard_and_checks (table R p.index) (kb R) (m R) (rows R) (columns R) p.z (stairs_here R p k) some s own (omega arith) (omega arith) single from within in

@@ -1,4 +1,6 @@
 // The checksum of a code block, by which edition 2 notices a bad one early (document 02, CR 8).
+#![tactic(auto)]
+
 pub mod inner;
 
 ghost use Rattle.blocksum.specs.Promises.{OfBlockBits};

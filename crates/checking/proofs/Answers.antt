@@ -136,10 +136,10 @@ module _ (R : List ℕ) (z' : ℕ) (word : List ℕ) (room : ℕ) where
       long-is = ap (λ (x : ℕ). x * z') n-is
 
       -- the rows are at most 40 groups of 81
-      pub rows-most : n * z' ≤ 3240
-      rows-most =
+      pub rows_most : n * z' ≤ 3240
+      rows_most =
           let shape = (fit R z' word (sym found ∙ done)).shape in
-          rw n-is (mul-le-mul shape.rows-most shape.z-most)
+          rw n-is (mul-le-mul shape.rows_most shape.z_most)
 
       pub sums-11 : room < n * z' → 11 ≡ sums_number R z' word room
       unfolding sums_number

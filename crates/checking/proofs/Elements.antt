@@ -23,7 +23,7 @@ use Rattle.checking.specs.Steps.Spread.{HasRow}
 
 module _ (T : List ℕ) (columns z row place : ℕ) where
   pub entry_in : HasRow T columns z row → place < columns * z → row / z * columns + place / z < length T
-  entry_in h l = omega (arith, suc-mul (row / z) columns, (div-lt_iff_lt-mul h.z-some).1 l, h.entries)
+  entry_in h l = omega (arith, suc-mul (row / z) columns, (div-lt_iff_lt-mul h.z_some).1 l, h.entries)
 
   module _ (s : ℕ) (read : s ≡ get_or T (row / z * columns + place / z) 0) where
     pub element-empty : s ≡ 255 → 0 ≡ spread T columns z row place
@@ -91,11 +91,11 @@ module _ (T : List ℕ) (columns z : ℕ) (w : List ℕ) (row : ℕ) where
 module _ (T : List ℕ) (rows columns z : ℕ) (shape : Shape T rows columns z) where
   pub has-row : (row : ℕ) → row < rows * z → HasRow T columns z row
   has-row row l =
-      let i : row / z < rows = (div-lt_iff_lt-mul shape.z-some).1 l in
+      let i : row / z < rows = (div-lt_iff_lt-mul shape.z_some).1 l in
       record {
-        z-some = shape.z-some;
-        z-most = shape.z-most;
-        columns-most = shape.columns-most;
+        z_some = shape.z_some;
+        z_most = shape.z_most;
+        columns_most = shape.columns_most;
         shifts = shape.shifts;
         entries = omega (arith, mul-le-mul_right columns i, shape.size);
       }

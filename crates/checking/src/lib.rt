@@ -1,4 +1,6 @@
 // Checking one word of bits, by the quick checker or by the plain one, and the sums of its rows.
+#![tactic(auto)]
+
 mod gate;
 pub mod inner;
 mod plain;
@@ -8,7 +10,7 @@ ghost use Rattle.checking.specs.Promises.{WordChecked, RowsSummed};
 use bits::number::{DONE, Written};
 
 // Which checker is asked: the quick one adds up shifted groups of places, the plain one goes through the spread-out matrix.
-#[derive(Drop)]
+#[derive(Clone, Copy)]
 pub enum Checker {
     Quick,
     Plain,
@@ -16,7 +18,7 @@ pub enum Checker {
 
 // A check's answer: its number, and whether the word checks, no with a refusal.
 #[repr(C)]
-#[derive(Drop)]
+#[derive(Clone, Copy)]
 pub struct Verdict {
     pub number: u32,
     pub checks: bool,

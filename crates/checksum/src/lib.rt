@@ -1,4 +1,6 @@
 // The checksums of section 5.1.1, of single bits and of packed octets, for each of the three widths.
+#![tactic(auto)]
+
 pub mod inner;
 mod register;
 mod table;
@@ -17,7 +19,7 @@ const GEN8: u32 = 0x9B;
 
 // A call's answer: its number, and the checksum, 0 with a refusal.
 #[repr(C)]
-#[derive(Drop)]
+#[derive(Clone, Copy)]
 pub struct Sum {
     pub number: u32,
     pub value: u32,

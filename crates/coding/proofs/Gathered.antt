@@ -16,11 +16,11 @@ use Rattle.bits.proofs.Lists.{bits-take, bits-drop, length_part}
 use Rattle.bits.proofs.Ranges.{none_any}
 use Rattle.bits.proofs.Sums.{sum_same, sum_mono}
 use Rattle.profile.specs.Record.{kb, kind, z, rows, columns, table}
-use Rattle.profile.proofs.Shape.{columns-is}
+use Rattle.profile.proofs.Shape.{columns_is}
 use Rattle.cutting.specs.Plan.{block_bits, sum_bits, blocks, own_bits, carried_bits, size_index, places}
 use Rattle.cutting.specs.Cutting.{own_start, own, carried, systematic}
 use Rattle.cutting.proofs.Summed.{with-sum-front}
-use Rattle.cutting.proofs.Carried.{carried-bits, carried-fits, own-size, carried-size}
+use Rattle.cutting.proofs.Carried.{carried-bits, carried_fits, own-size, carried-size}
 use Rattle.cutting.proofs.Plans.{Cut, plan-cut}
 use Rattle.matching.specs.Steps.Places.{kept_before}
 use Rattle.matching.specs.Steps.Line.{heard}
@@ -131,7 +131,7 @@ module _ (R : List ℕ) (b : ℕ) (terms : Terms) (bits : List ℕ) (h : HasRoom
 
   -- behind the places there are parity bits
   behind : total - places R ed b ≡ rows R * z R (size_index R ed b)
-  behind = omega (arith, cut.product, ap (λ (n : ℕ). n * z R (size_index R ed b)) (columns-is R), add-mul (kb R) (rows R) (z R (size_index R ed b)))
+  behind = omega (arith, cut.product, ap (λ (n : ℕ). n * z R (size_index R ed b)) (columns_is R), add-mul (kb R) (rows R) (z R (size_index R ed b)))
 
   pub load-length : (r : ℕ) → r < c → length (carried_received R b terms bits r) ≡ load r
   load-length r l =
@@ -156,7 +156,7 @@ module _ (R : List ℕ) (b : ℕ) (terms : Terms) (bits : List ℕ) (h : HasRoom
 
   pub gathered-length : length (gathered R b terms bits) ≡ b
   unfolding gathered own_start
-  gathered-length = front_length c (omega arith) ∙ cut.own-sum
+  gathered-length = front_length c (omega arith) ∙ cut.own_sum
 
   pub gathered-bits : AreBits (gathered R b terms bits)
   unfolding gathered own_received
@@ -219,11 +219,11 @@ module _ (R : List ℕ) (b : ℕ) (terms : Terms) (bits : List ℕ) (h : HasRoom
       carried-begins r l =
           let product = cut.product in
           let y = z R (size_index R ed b) in
-          let low = cut.known.z-low (size_index R ed b) cut.size in
-          let more : y ≤ y * rows R = le-mul_of_pos_right y (omega (arith, cut.known.rows-low)) in
+          let low = cut.known.z_low (size_index R ed b) cut.size in
+          let more : y ≤ y * rows R = le-mul_of_pos_right y (omega (arith, cut.known.rows_low)) in
           let some : 0 < rows R * y = omega (arith, mul_comm y (rows R), more, low) in
-          let law = heard-own (table R (size_index R ed b)) (carried R ed b u r) (kb R) (rows R) (columns R) y (columns-is R)
-          (carried-bits R ed b u single r) (omega (arith, sized r l, carried-fits R ed b cut r, product)) (version_start R b terms) (given r) h.starts some (omega (arith, sized r l, has_room r l)) in
+          let law = heard-own (table R (size_index R ed b)) (carried R ed b u r) (kb R) (rows R) (columns R) y (columns_is R)
+          (carried-bits R ed b u single r) (omega (arith, sized r l, carried_fits R ed b cut r, product)) (version_start R b terms) (given r) h.starts some (omega (arith, sized r l, has_room r l)) in
           ap (λ (s : List ℕ). take (length (carried R ed b u r)) (lined (length (carried R ed b u r)) s)) (block-sent-is R b u terms g r cut) ∙ rw product law
 
       module _ (e : radio_bits R b u terms g ≡ bits) where
@@ -242,6 +242,6 @@ module _ (R : List ℕ) (b : ℕ) (terms : Terms) (bits : List ℕ) (h : HasRoom
         unfolding gathered own own_start
         sent-gathered =
             sym (take_all b u (omega (arith, size)))
-            ∙ ap (λ (n : ℕ). take n u) (sym cut.own-sum)
+            ∙ ap (λ (n : ℕ). take n u) (sym cut.own_sum)
             ∙ sym (joined-cut mine u c)
             ∙ joined_same (λ r. take (mine r) (drop (own_start R ed b r) u)) (own_received R b terms bits) c (λ r l. own-sent r l)

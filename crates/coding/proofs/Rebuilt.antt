@@ -15,7 +15,7 @@ use Rattle.bits.proofs.Lists.{same_equal, same_self, length_part}
 use Rattle.bits.proofs.Ranges.{both, last_or}
 use Rattle.bits.proofs.Laid.{laid-front}
 use Rattle.profile.specs.Record.{kb, rows, columns, table}
-use Rattle.profile.proofs.Shape.{columns-is}
+use Rattle.profile.proofs.Shape.{columns_is}
 use Rattle.cutting.specs.Plan.{block_bits, blocks, own_bits}
 use Rattle.cutting.specs.Cutting.{own_start, own, with_sum, carried, systematic}
 use Rattle.cutting.specs.declared.Plan.{Plan}
@@ -86,8 +86,8 @@ module _ (R : List ℕ) (terms : Terms) (bits : List ℕ) (p : Plan) (h : Receiv
       let room = has_room R p.bits terms bits room-everywhere r (omega (arith, k.blocks_is)) in
       let product = places-product R p k in
       let parts = add-mul (kb R) (rows R) p.z in
-      let wide : columns R * p.z ≡ (kb R + rows R) * p.z = ap (λ (n : ℕ). n * p.z) (columns-is R) in
-      omega (arith, carried-is R p k r n q, d, ap (λ (n : ℕ). rows R * n) k.z-is, room, product, parts, wide)
+      let wide : columns R * p.z ≡ (kb R + rows R) * p.z = ap (λ (n : ℕ). n * p.z) (columns_is R) in
+      omega (arith, carried-is R p k r n q, d, ap (λ (n : ℕ). rows R * n) k.z_is, room, product, parts, wide)
 
   -- block r, whose stretch begins at `from`, has e bits, and n own bits in front
   module _ (r from e n start : ℕ) (l : r < p.blocks) (a : from ≡ at r) (d : e ≡ given r) (q : n ≡ own_bits p.bits p.blocks r)
@@ -107,7 +107,7 @@ module _ (R : List ℕ) (terms : Terms) (bits : List ℕ) (p : Plan) (h : Receiv
     load_here =
         let k = fields in
         ap₂ (λ (i : ℕ) (x : List ℕ). take i (heard i p.places start (columns R * p.z) x)) (carried-is R p k r n q) (ap₂ (λ (i j : ℕ). take i (drop j bits)) d a)
-        ∙ rw (k.places_is, v, k.z-is)
+        ∙ rw (k.places_is, v, k.z_is)
 
     own-here : take n load ≡ own_received R p.bits terms bits r
     unfolding own_received
@@ -126,7 +126,7 @@ module _ (R : List ℕ) (terms : Terms) (bits : List ℕ) (p : Plan) (h : Receiv
     tested-is mine =
         let k = fields in
         ap (λ (x : List ℕ). same x s)
-        (rw (mine, k.places_is, s-length, k.index_is, k.z-is, d, v) (sym (block-sent-is R p.bits t terms (length bits) r k.cut)))
+        (rw (mine, k.places_is, s-length, k.index_is, k.z_is, d, v) (sym (block-sent-is R p.bits t terms (length bits) r k.cut)))
 
     -- its checksum says that it is
     load-sum : sum_holds p.sums load ≡ true → load ≡ carried R ed p.bits t r
@@ -136,7 +136,7 @@ module _ (R : List ℕ) (terms : Terms) (bits : List ℕ) (p : Plan) (h : Receiv
         let long : length load ≡ n + p.sums = ap length load_here ∙ load-length R p.bits terms bits room-everywhere r inside ∙ sym (carried-is R p k r n q) in
         let own-count : length load - p.sums ≡ n = omega arith in
         holds_with_sum p.sums load (plan-sum R p k) (rw load_here (load-bits R p.bits terms bits room-everywhere r)) (omega arith) holds
-        ∙ ap₂ (λ (i j : ℕ). with_sum i (take j load)) k.sums-is own-count ∙ ap (with_sum _) own-there
+        ∙ ap₂ (λ (i j : ℕ). with_sum i (take j load)) k.sums_is own-count ∙ ap (with_sum _) own-there
 
     -- and so do the received bits, where the gathered ones are sent as them
     module _ (whole : radio_bits R p.bits t terms (length bits) ≡ bits) where
@@ -152,7 +152,7 @@ module _ (R : List ℕ) (terms : Terms) (bits : List ℕ) (p : Plan) (h : Receiv
 
       sum-sent : sum_holds p.sums load ≡ true
       unfolding carried
-      sum-sent = ap₂ sum_holds fields.sums-is load-sent ∙ with-sum-holds _ (own R ed p.bits t r)
+      sum-sent = ap₂ sum_holds fields.sums_is load-sent ∙ with-sum-holds _ (own R ed p.bits t r)
 
       both-sent : block_sent_as (table R p.index) (rows R) (columns R) p.z start (with_filler p.places load) s && sum_holds p.sums load ≡ true
       both-sent =
@@ -194,7 +194,7 @@ module _ (R : List ℕ) (terms : Terms) (bits : List ℕ) (p : Plan) (h : Receiv
     unfolding gathered share_start own_start
     walk-done =
         let k = fields in
-        let all : start ≡ p.bits = w.starts ∙ ap (own_start R ed p.bits) (end ∙ k.blocks_is) ∙ k.cut.own-sum in (
+        let all : start ≡ p.bits = w.starts ∙ ap (own_start R ed p.bits) (end ∙ k.blocks_is) ∙ k.cut.own_sum in (
           all-sent R p.bits terms bits room-everywhere t (λ i u. w.sent i (omega (arith, k.blocks_is, end))),
           ap (λ (x : ℕ). take x room) (sym all) ∙ w.front ∙ ap (λ (n : ℕ). joined n (own_received R p.bits terms bits)) (end ∙ k.blocks_is),
         )

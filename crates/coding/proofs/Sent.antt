@@ -14,13 +14,13 @@ use Rattle.bits.proofs.Filler.{length-filled}
 use Rattle.bits.proofs.Ranges.{below_or}
 use Rattle.bits.proofs.Sums.{sum_mono}
 use Rattle.profile.specs.Record.{kb, kind, z, rows, columns, table}
-use Rattle.profile.proofs.Shape.{columns-is}
+use Rattle.profile.proofs.Shape.{columns_is}
 use Rattle.cutting.specs.Plan.{sum_bits, blocks, own_bits, carried_bits, size_index, places, filler}
 use Rattle.cutting.specs.Cutting.{own_start, own, with_sum, carried, systematic}
 use Rattle.cutting.specs.declared.Plan.{Plan}
 use Rattle.cutting.proofs.Summed.{is_sum, length-with-sum}
 use Rattle.cutting.proofs.Plans.{Cut}
-use Rattle.cutting.proofs.Carried.{carried-fits}
+use Rattle.cutting.proofs.Carried.{carried_fits}
 use Rattle.cutting.proofs.PlanFields.{PlanFields}
 use Rattle.parity.specs.Coded.{coded}
 use Rattle.parity.proofs.Coded.{coded-length}
@@ -50,7 +50,7 @@ pub sendable_parts : (R : List ℕ) (ed b : ℕ) → Cut R ed b → (r : ℕ) �
 unfolding sendable filler
 sendable_parts R ed b cut r =
     let y = z R (size_index R ed b) in
-    omega (arith, cut.product, ap (λ (n : ℕ). n * y) (columns-is R), add-mul (kb R) (rows R) y, carried-fits R ed b cut r)
+    omega (arith, cut.product, ap (λ (n : ℕ). n * y) (columns_is R), add-mul (kb R) (rows R) y, carried_fits R ed b cut r)
 
 -- ---- the coded word and its start
 
@@ -73,7 +73,7 @@ module _ (R : List ℕ) (b : ℕ) (bits : List ℕ) (terms : Terms) (g r : ℕ) 
           arith,
           length-with-sum (sum_bits R ed b) (own R ed b bits r) (is_sum R ed b),
           taken-most (own_bits b (blocks R ed b) r) (drop (own_start R ed b r) bits),
-          cut.own-most r,
+          cut.own_most r,
           cut.room,
           cut.product,
         )
@@ -82,7 +82,7 @@ module _ (R : List ℕ) (b : ℕ) (bits : List ℕ) (terms : Terms) (g r : ℕ) 
     unfolding coded_block systematic
     coded-size =
         coded-length (table R (size_index R ed b)) (rows R) (columns R) (z R (size_index R ed b)) (with_filler (places R ed b) (carried R ed b bits r)) (kb R)
-        (ap (λ (n : ℕ). length (with_filler n (carried R ed b bits r))) cut.product ∙ length-filled (kb R * z R (size_index R ed b)) (carried R ed b bits r) carried-short) (columns-is R)
+        (ap (λ (n : ℕ). length (with_filler n (carried R ed b bits r))) cut.product ∙ length-filled (kb R * z R (size_index R ed b)) (carried R ed b bits r) carried-short) (columns_is R)
 
     pub block-sent-is : block_sent R b bits terms g r
         ≡ matched (turned (version_start R b terms) (coded_block R terms.edition b bits r)) (share terms g (blocks R terms.edition b) r).0
@@ -95,7 +95,7 @@ module _ (R : List ℕ) {ed : ℕ} (p : Plan) (k : PlanFields R ed p) where
 
   pub carried-is : (r n : ℕ) → n ≡ own_bits p.bits p.blocks r → n + p.sums ≡ carried_bits R ed p.bits r
   unfolding carried_bits
-  carried-is r n e = ap₂ (λ (x y : ℕ). x + y) (own_is r n e) k.sums-is
+  carried-is r n e = ap₂ (λ (x y : ℕ). x + y) (own_is r n e) k.sums_is
 
   -- block r's own bits are there, and what it carries has room in its places
   pub own-fits : (r start n : ℕ) → r < p.blocks → start ≡ own_start R ed p.bits r → n ≡ own_bits p.bits p.blocks r → start + n ≤ p.bits
@@ -106,25 +106,25 @@ module _ (R : List ℕ) {ed : ℕ} (p : Plan) (k : PlanFields R ed p) where
       let within : r + 1 ≤ blocks R ed b = omega (arith, k.blocks_is) in
       let all : sum_below (r + 1) f ≤ sum_below (blocks R ed b) f = sum_mono f (r + 1) (blocks R ed b) within in
       let turn : sum_below (r + 1) f ≡ sum_below r f + f r = start_turn R ed b r in
-      omega (arith, all, turn, k.cut.own-sum, own_is r n e, s)
+      omega (arith, all, turn, k.cut.own_sum, own_is r n e, s)
 
   pub carried-room : (r n : ℕ) → n ≡ own_bits p.bits p.blocks r → n + p.sums ≤ p.places
-  carried-room r n e = omega (arith, own_is r n e, k.cut.own-most r, k.cut.room, k.places_is, k.sums-is)
+  carried-room r n e = omega (arith, own_is r n e, k.cut.own_most r, k.cut.room, k.places_is, k.sums_is)
 
   -- N, as the code counts it
   pub sendable-is : (r n all : ℕ) → n ≡ own_bits p.bits p.blocks r → all ≡ columns R * p.z → all - (p.places - (n + p.sums)) ≡ sendable R ed p.bits r
   unfolding sendable filler
-  sendable-is r n all e f = rw (f, carried-is r n e, k.places_is, k.z-is)
+  sendable-is r n all e f = rw (f, carried-is r n e, k.places_is, k.z_is)
 
   -- its places, as the code lays them
   module _ (bits : List ℕ) (r start n : ℕ) (s : start ≡ own_start R ed p.bits r) (e : n ≡ own_bits p.bits p.blocks r) where
     cut-is : with_filler p.places (with_sum p.sums (take n (drop start bits))) ≡ systematic R ed p.bits bits r
     unfolding systematic carried own
-    cut-is = rw (own_is r n e, s, k.places_is, k.sums-is)
+    cut-is = rw (own_is r n e, s, k.places_is, k.sums_is)
 
     pub coded-is : coded (table R p.index) (rows R) (columns R) p.z (with_filler p.places (with_sum p.sums (take n (drop start bits)))) ≡ coded_block R ed p.bits bits r
     unfolding coded_block
-    coded-is = rw (cut-is, k.index_is, k.z-is)
+    coded-is = rw (cut-is, k.index_is, k.z_is)
 
 -- ---- in the edition of the terms
 
@@ -135,13 +135,13 @@ module _ (R : List ℕ) (p : Plan) (terms : Terms) (k : PlanFields R terms.editi
   -- the place from which a block is sent, as the code finds it
   pub start_is : (from : ℕ) → from ≡ start_of (kind R) terms.rv (columns R * p.z) → from ≡ version_start R p.bits terms
   unfolding version_start
-  start_is from e = e ∙ rw k.z-is
+  start_is from e = e ∙ rw k.z_is
 
   pub start_in : terms.rv ≤ 3 → (from : ℕ) → from ≡ version_start R p.bits terms → from ≤ columns R * p.z
   unfolding version_start
   start_in low from e =
       let long : ℕ = columns R * z R (size_index R terms.edition p.bits) in
-      let is : columns R * p.z ≡ long = rw k.z-is in
+      let is : columns R * p.z ≡ long = rw k.z_is in
       omega (arith, e, is, start_within (kind R) terms.rv long low)
 
   -- ---- shares

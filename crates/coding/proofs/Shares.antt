@@ -16,7 +16,7 @@ use Rattle.bits.proofs.Rounding.{ceil_more}
 use Rattle.bits.proofs.Sums.{sum_same, sum-times}
 use Rattle.bits.proofs.Terms.{usable-is}
 use Rattle.cutting.specs.Plan.{own_bits}
-use Rattle.cutting.proofs.Rounding.{own-sum}
+use Rattle.cutting.proofs.Rounding.{own_sum}
 use Rattle.coding.specs.Allocation.{misallocated, symbol_places, spare, share}
 use Rattle.coding.specs.Steps.Shares.{Allocated}
 
@@ -60,7 +60,7 @@ shares_all terms g c h =
     let p = place_bits terms in
     sum_same c (λ r. (share terms g c r).0) (λ r. p * own_bits (g / p) c r) (λ r l. share-places terms g c r)
     ∙ sum-times c p (own_bits (g / p) c)
-    ∙ ap (λ (n : ℕ). p * n) (own-sum (g / p) c h.blocks)
+    ∙ ap (λ (n : ℕ). p * n) (own_sum (g / p) c h.blocks)
     ∙ omega (arith, div-add-mod g p, h.whole)
 
 -- an allocation that is not refused with 8

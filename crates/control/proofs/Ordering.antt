@@ -1,6 +1,6 @@
 -- The order in which three streams are sent takes every place once: 3D places, each below 3D, no two the same.
 use mathlib.Core.Path.{◌≡◌, refl, sym, ap, ◌∙◌}
-use mathlib.Core.Bool.{Bool, true, cond, not}
+use mathlib.Core.Bool.{Bool, true, cond}
 use mathlib.Core.List.{List, [], ◌∷◌, ◌++◌, append-nil}
 use Prim.Native.Nat.{ℕ, zero, suc, ◌+◌, ◌-◌, ◌*◌, ◌/◌, ◌%◌, ◌≤◌, ◌<◌}
 use native.Mathlib.Nat.{mul_comm, mod-lt, div-lt_iff_lt-mul, div-add-mod, div-add-mod'}
@@ -31,20 +31,20 @@ rows_of D h l = record { some = omega arith; most = omega arith; all = omega ari
 column-low : ℕ → Bool
 column-low j = ltb (get_or columns j 0) 32
 
-column-is : ℕ → ℕ → Bool
-column-is c j = eqb (get_or columns j 0) c
+column_is : ℕ → ℕ → Bool
+column_is c j = eqb (get_or columns j 0) c
 
 low-test : all_below 32 column-low ≡ true
 unfolding column-low columns all_below
 low-test = refl
 
-has-test : all_below 32 (λ c. any_below 32 (column-is c)) ≡ true
-unfolding column-is columns all_below any_below
+has-test : all_below 32 (λ c. any_below 32 (column_is c)) ≡ true
+unfolding column_is columns all_below any_below
 has-test = refl
 
 -- each is found where it stands, so that none stands twice
-first-test : all_below 32 (λ j. eqb (first_below 32 (column-is (get_or columns j 0))) j) ≡ true
-unfolding column-is columns all_below any_below first_below
+first-test : all_below 32 (λ j. eqb (first_below 32 (column_is (get_or columns j 0))) j) ≡ true
+unfolding column_is columns all_below any_below first_below
 first-test = refl
 
 pub column_lt : (j : ℕ) → j < 32 → get_or columns j 0 < 32
@@ -53,8 +53,8 @@ column_lt j h = ltb-true (get_or columns j 0) 32 (all-at 32 column-low low-test 
 
 column_once : (i j : ℕ) → i < 32 → j < 32 → get_or columns i 0 ≡ get_or columns j 0 → i ≡ j
 column_once i j h l e =
-    let found : (k : ℕ) → k < 32 → first_below 32 (column-is (get_or columns k 0)) ≡ k = λ k m. eqb-true _ _ (all-at 32 (λ j. eqb (first_below 32 (column-is (get_or columns j 0))) j) first-test k m) in
-    sym (found i h) ∙ ap (λ (c : ℕ). first_below 32 (column-is c)) e ∙ found j l
+    let found : (k : ℕ) → k < 32 → first_below 32 (column_is (get_or columns k 0)) ≡ k = λ k m. eqb-true _ _ (all-at 32 (λ j. eqb (first_below 32 (column_is (get_or columns j 0))) j) first-test k m) in
+    sym (found i h) ∙ ap (λ (c : ℕ). first_below 32 (column_is c)) e ∙ found j l
 
 -- ---- every place of the matrix is read, and once
 
@@ -79,11 +79,11 @@ record Read (R n : ℕ) : Type 0 where
   pub is : matrix_place R at ≡ n
 
 read_of : (R n : ℕ) → n < R * 32 → Read R n
-unfolding column-is
+unfolding column_is
 read_of R n l =
     let row : n / 32 < R = omega arith in
-    let f = first_some 32 (column-is (n % 32)) (all-at 32 (λ c. any_below 32 (column-is c)) has-test (n % 32) (omega arith)) in
-    let j = first_below 32 (column-is (n % 32)) in
+    let f = first_some 32 (column_is (n % 32)) (all-at 32 (λ c. any_below 32 (column_is c)) has-test (n % 32) (omega arith)) in
+    let j = first_below 32 (column_is (n % 32)) in
     let col : get_or columns j 0 ≡ n % 32 = eqb-true (get_or columns j 0) (n % 32) f.holds in
     record {
       at = j * R + n / 32;

@@ -17,7 +17,7 @@ use Rattle.bits.proofs.Listed.{length_list}
 use Rattle.bits.proofs.Lists.{bits-drop}
 use Rattle.bits.proofs.Ranges.{all-at}
 use Rattle.control.proofs.Collecting.{list_bits}
-use Rattle.control.specs.Register.{output, stream, after, preset, streams}
+use Rattle.control.specs.Register.{output, stream, after, preset}
 
 -- ---- the register by the bits in it, h k the oldest
 

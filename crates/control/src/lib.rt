@@ -1,5 +1,7 @@
 // Tail-biting coding for control bits (document 02, CR 5): a word coded to three streams, streams matched to E bits, both in one call, and the way back from E
 // bits to the streams. Streams lie whole, one after the other, in the order of their generators 133, 171 and 165.
+#![tactic(auto)]
+
 mod gate;
 pub mod inner;
 mod order;

@@ -13,9 +13,9 @@ use Rattle.cutting.specs.Cutting.{own_start, own, carried}
 use Rattle.cutting.proofs.Summed.{is_sum, length-with-sum, with-sum-bits}
 use Rattle.cutting.proofs.Plans.{Cut}
 
-pub carried-fits : (R : List ℕ) (ed b : ℕ) → Cut R ed b → (r : ℕ) → carried_bits R ed b r ≤ places R ed b
+pub carried_fits : (R : List ℕ) (ed b : ℕ) → Cut R ed b → (r : ℕ) → carried_bits R ed b r ≤ places R ed b
 unfolding carried_bits
-carried-fits R ed b cut r = omega (arith, cut.own-most r, cut.room)
+carried_fits R ed b cut r = omega (arith, cut.own_most r, cut.room)
 
 module _ (R : List ℕ) (ed b : ℕ) (u : List ℕ) where
   pub own_are_bits : AreBits u → (r : ℕ) → AreBits (own R ed b u r)
@@ -32,7 +32,7 @@ module _ (R : List ℕ) (ed b : ℕ) (u : List ℕ) where
     own-size r l =
         let mine = own_bits b (blocks R ed b) in
         let within : suc r ≤ blocks R ed b = omega arith in
-        length_part (mine r) (own_start R ed b r) u (omega (arith, size, cut.own-sum, sum_mono mine (suc r) (blocks R ed b) within))
+        length_part (mine r) (own_start R ed b r) u (omega (arith, size, cut.own_sum, sum_mono mine (suc r) (blocks R ed b) within))
 
     pub carried-size : (r : ℕ) → r < blocks R ed b → length (carried R ed b u r) ≡ carried_bits R ed b r
     unfolding carried carried_bits

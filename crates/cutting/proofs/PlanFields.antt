@@ -18,9 +18,9 @@ pub record PlanFields (R : List ℕ) (ed : ℕ) (p : Plan) : Type 0 where
   pub cut : Cut R ed p.bits
   pub blocks_is : p.blocks ≡ blocks R ed p.bits
   pub places_is : p.places ≡ places R ed p.bits
-  pub z-is : p.z ≡ z R (size_index R ed p.bits)
+  pub z_is : p.z ≡ z R (size_index R ed p.bits)
   pub index_is : p.index ≡ size_index R ed p.bits
-  pub sums-is : p.sums ≡ sum_bits R ed p.bits
+  pub sums_is : p.sums ≡ sum_bits R ed p.bits
 
 module _ (R : List ℕ) (ed octets : ℕ) (p : Plan) (plan : p ≡ planned R ed octets) where
   module _ (e : plan_number R ed octets ≡ 0) where
@@ -35,9 +35,9 @@ module _ (R : List ℕ) (ed octets : ℕ) (p : Plan) (plan : p ≡ planned R ed 
           cut = rw b at (plan-cut R ed octets e);
           blocks_is = plan-blocks R ed octets p plan e ∙ ap (blocks R ed) b;
           places_is = plan-places R ed octets p plan e ∙ ap (places R ed) b;
-          z-is = plan-z R ed octets p plan e ∙ ap (λ (n : ℕ). z R (size_index R ed n)) b;
+          z_is = plan-z R ed octets p plan e ∙ ap (λ (n : ℕ). z R (size_index R ed n)) b;
           index_is = plan_index R ed octets p plan e ∙ ap (size_index R ed) b;
-          sums-is = plan-sums R ed octets p plan e ∙ ap (sum_bits R ed) b;
+          sums_is = plan-sums R ed octets p plan e ∙ ap (sum_bits R ed) b;
         }
 
     pub blocks-are : p.blocks ≡ blocks R ed (block_bits octets)
@@ -60,10 +60,10 @@ module _ (R : List ℕ) {ed : ℕ} (p : Plan) (k : PlanFields R ed p) where
   index_below_t = rw k.index_is k.cut.size
 
   pub places-product : p.places ≡ kb R * p.z
-  places-product = k.places_is ∙ k.cut.product ∙ ap (λ (n : ℕ). kb R * n) (sym k.z-is)
+  places-product = k.places_is ∙ k.cut.product ∙ ap (λ (n : ℕ). kb R * n) (sym k.z_is)
 
   pub word-most : columns R * p.z ≤ 4860
-  word-most = rw k.z-is k.cut.coded-high
+  word-most = rw k.z_is k.cut.coded_high
 
   pub plan-sum : IsSum p.sums
-  plan-sum = rw k.sums-is (is_sum R ed p.bits)
+  plan-sum = rw k.sums_is (is_sum R ed p.bits)

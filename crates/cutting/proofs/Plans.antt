@@ -21,20 +21,20 @@ use Rattle.cutting.specs.Promises.{plan_number, cutting, refusal, planned}
 use Rattle.cutting.specs.declared.Plan.{Plan}
 use Rattle.cutting.specs.Steps.Plans.{plan_for}
 use Rattle.cutting.proofs.Answers.{plan_unjudged, plan-judged, cutting-planned}
-use Rattle.cutting.proofs.Rounding.{own-sum, own-most, own-some}
+use Rattle.cutting.proofs.Rounding.{own_sum, own_most, own_some}
 use Rattle.cutting.proofs.Summed.{few-blocks, sum_fits}
 
 module _ (R : List ℕ) (known : Accepted R) where
   pub kmax-low : 0 < kmax R
   unfolding kmax
-  kmax-low = mul-pos known.kb-low (known.z-low (t R - 1) (omega (arith, known.t-low)))
+  kmax-low = mul-pos known.kb_low (known.z_low (t R - 1) (omega (arith, known.t_low)))
 
   -- the last size gives Kmax places, so where that is enough there is a first that is enough
   pub size-first : (need : ℕ) → need ≤ kmax R → First (t R) (λ i. leb need (kb R * z R i)) (size_index_for R need)
   unfolding kmax size_index_for
   size-first need h =
       let enough : ℕ → Bool = λ i. leb need (kb R * z R i) in
-      let last : t R - 1 < t R = omega (arith, known.t-low) in
+      let last : t R - 1 < t R = omega (arith, known.t_low) in
       first_some (t R) enough (any_of (t R) enough (t R - 1) last (le-leb need (kb R * z R (t R - 1)) h))
 
   module _ (ed b : ℕ) (some : 0 < b) (fits : sum_bits R ed b < kmax R) where
@@ -67,19 +67,19 @@ plan-for R ed b most sums count p q r = rw (p, q, r)
 -- B bits, cut in this edition by a record that is accepted into no more than 64 blocks
 pub record Cut (R : List ℕ) (ed b : ℕ) : Type 0 where
   pub known : Accepted R
-  pub bits-low : 32 ≤ b
-  pub bits-high : b ≤ 16408
+  pub bits_low : 32 ≤ b
+  pub bits_high : b ≤ 16408
   pub some : 1 ≤ blocks R ed b
   pub most : blocks R ed b ≤ 64
   pub size : size_index R ed b < t R
   pub room : ceil b (blocks R ed b) + sum_bits R ed b ≤ places R ed b
   pub least : (i : ℕ) → i < size_index R ed b → kb R * z R i < ceil b (blocks R ed b) + sum_bits R ed b
   pub product : places R ed b ≡ kb R * z R (size_index R ed b)
-  pub places-high : places R ed b ≤ 1620
-  pub coded-high : columns R * z R (size_index R ed b) ≤ 4860
-  pub own-some : (r : ℕ) → 1 ≤ own_bits b (blocks R ed b) r
-  pub own-most : (r : ℕ) → own_bits b (blocks R ed b) r ≤ ceil b (blocks R ed b)
-  pub own-sum : sum_below (blocks R ed b) (own_bits b (blocks R ed b)) ≡ b
+  pub places_high : places R ed b ≤ 1620
+  pub coded_high : columns R * z R (size_index R ed b) ≤ 4860
+  pub own_some : (r : ℕ) → 1 ≤ own_bits b (blocks R ed b) r
+  pub own_most : (r : ℕ) → own_bits b (blocks R ed b) r ≤ ceil b (blocks R ed b)
+  pub own_sum : sum_below (blocks R ed b) (own_bits b (blocks R ed b)) ≡ b
 
 module _ (R : List ℕ) (ed : ℕ) where
   pub cut_of : (b : ℕ) → Accepted R → 32 ≤ b → b ≤ 16408 → too_many_blocks R ed b ≡ false → Cut R ed b
@@ -89,22 +89,22 @@ module _ (R : List ℕ) (ed : ℕ) where
       let some : 0 < blocks R ed b = blocks-some R known ed b (omega arith) fits in
       let need : ℕ = ceil b (blocks R ed b) + sum_bits R ed b in
       let first = size-first R known need (need-most R known ed b (omega arith) fits) in
-      let top = known.z-high (size_index R ed b) first.below in
+      let top = known.z_high (size_index R ed b) first.below in
       record {
         known = known;
-        bits-low = low;
-        bits-high = high;
+        bits_low = low;
+        bits_high = high;
         some = some;
         most = few-blocks R ed b few;
         size = first.below;
         room = leb-true need (kb R * z R (size_index R ed b)) first.holds;
         least = λ i l. leb-false need (kb R * z R i) (first.none i l);
         product = refl;
-        places-high = mul-le-mul known.kb-high top;
-        coded-high = mul-le-mul known.columns-high top;
-        own-some = own-some b (blocks R ed b) some (blocks-fewer R known ed b (omega arith) fits);
-        own-most = own-most b (blocks R ed b) some;
-        own-sum = own-sum b (blocks R ed b) some;
+        places_high = mul-le-mul known.kb_high top;
+        coded_high = mul-le-mul known.columns_high top;
+        own_some = own_some b (blocks R ed b) some (blocks-fewer R known ed b (omega arith) fits);
+        own_most = own_most b (blocks R ed b) some;
+        own_sum = own_sum b (blocks R ed b) some;
       }
 
   -- the tests that a plan with number 0 has passed, and what they say of the cut

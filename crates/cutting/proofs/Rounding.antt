@@ -41,19 +41,19 @@ module _ (b c : ℕ) (some : 0 < c) where
       below_or r (b % c) (λ l. rw (lt-ltb r (b % c) l) (ceil_more b c some (omega arith))) (λ l. rw (le-ltb r (b % c) l) (omega arith))
 
   -- all of them together
-  pub own-sum : sum_below c (own_bits b c) ≡ b
-  own-sum =
+  pub own_sum : sum_below c (own_bits b c) ≡ b
+  own_sum =
       sum_same c (own_bits b c) (λ r. b / c + below (b % c) r) (λ r l. own_parts r)
       ∙ parts_sum c (b / c) (b % c) (omega (arith, mod-lt b some))
       ∙ omega (arith, mul_comm c (b / c), div-add-mod' b c)
 
-  pub own-most : (r : ℕ) → own_bits b c r ≤ ceil b c
+  pub own_most : (r : ℕ) → own_bits b c r ≤ ceil b c
   unfolding own_bits
-  own-most r =
+  own_most r =
       below_or r (b % c) (λ l. rw (lt-ltb r (b % c) l) (omega arith)) (λ l. rw (le-ltb r (b % c) l) (floor_ceil b c some))
 
-  pub own-some : c ≤ b → (r : ℕ) → 1 ≤ own_bits b c r
-  own-some h r =
+  pub own_some : c ≤ b → (r : ℕ) → 1 ≤ own_bits b c r
+  own_some h r =
       let one : 1 ≤ b / c = (le-div_iff_mul-le some).1 (omega (arith, one-mul c)) in
       omega (arith, own_parts r)
 

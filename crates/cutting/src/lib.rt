@@ -1,4 +1,6 @@
 // Steps 1 to 3 of document 01: how a transport block is cut into code blocks, its transport bits, and each block's places.
+#![tactic(auto)]
+
 mod cut;
 pub mod inner;
 
@@ -9,7 +11,7 @@ use bits::number::DONE;
 
 // How a transport block is cut, all 0 with a refusal.
 #[repr(C)]
-#[derive(Drop)]
+#[derive(Clone, Copy)]
 pub struct Plan {
     pub number: u32,
     // B, the bits of the block and its checksum.

@@ -25,7 +25,7 @@ use Rattle.masked.specs.Promises.{SumUnder, append_conditions, append_number, Ap
 use Rattle.masked.specs.declared.Tested.{Tested}
 use Rattle.profile.specs.Record.{kb, rows, columns}
 use Rattle.profile.specs.Promises.{judge_conditions, judged}
-use Rattle.profile.proofs.Shape.{columns-is}
+use Rattle.profile.proofs.Shape.{columns_is}
 use Rattle.cutting.specs.Plan.{block_bits}
 use Rattle.cutting.specs.Promises.{plan_conditions, plan_number, refusal, planned}
 use Rattle.cutting.specs.Transport.{transport}
@@ -183,7 +183,7 @@ unfolding NoneHolds
 append-fits w m bits =
     record {
       size = λ room e. length_attached_under w (generator w) m bits;
-      room = λ room e. let h = (append-answers w bits room (sym e)).only-done refl in ltb-false room (length bits + w) h.1.0;
+      room = λ room e. let h = (append-answers w bits room (sym e)).only_done refl in ltb-false room (length bits + w) h.1.0;
     }
 
 append_writes : {w m : ℕ} {bits out : List ℕ} {r : Written} {o : List ℕ} → Appended w m bits out r o
@@ -208,10 +208,10 @@ module _ (R : List ℕ) (z : ℕ) (places : List ℕ) where
   code_fits =
       record {
         size = λ room e.
-            let h = (code_answers R z places room (sym e)).only-done refl in
-            coded-length (table_for R z) (rows R) (columns R) z places (kb R) (fits R z (kb R) places h.1.1.0).1 (columns-is R);
+            let h = (code_answers R z places room (sym e)).only_done refl in
+            coded-length (table_for R z) (rows R) (columns R) z places (kb R) (fits R z (kb R) places h.1.1.0).1 (columns_is R);
         room = λ room e.
-            let h = (code_answers R z places room (sym e)).only-done refl in
+            let h = (code_answers R z places room (sym e)).only_done refl in
             ltb-false room (columns R * z) h.1.1.1.0;
       }
 
@@ -241,7 +241,7 @@ module _ (R : List ℕ) (z : ℕ) (word : List ℕ) where
   sums-fits =
       record {
         size = λ room e. length_list (rows R * z) (row_sum (table_for R z) (columns R) z word);
-        room = λ room e. let h = (sums-answers room (sym e)).only-done refl in ltb-false room (rows R * z) h.1.1.1.0;
+        room = λ room e. let h = (sums-answers room (sym e)).only_done refl in ltb-false room (rows R * z) h.1.1.1.0;
       }
 
 sums_writes : {R : List ℕ} {z : ℕ} {word out : List ℕ} {r : Written} {o : List ℕ} → RowsSummed R z word out r o
@@ -265,7 +265,7 @@ unfolding NoneHolds matched_from
 match_fits places kind rv e =
     record {
       size = λ room q. matched-length (turned (start_of kind rv (length places)) places) e;
-      room = λ room q. let h = (match_answers places kind rv e room (sym q)).only-done refl in ltb-false room e h.1.1.1.0;
+      room = λ room q. let h = (match_answers places kind rv e room (sym q)).only_done refl in ltb-false room e h.1.1.1.0;
     }
 
 match_writes : {places : List ℕ} {kind rv e : ℕ} {out : List ℕ} {r : Written} {o : List ℕ} → RateMatched places kind rv e out r o
@@ -289,7 +289,7 @@ unfolding NoneHolds
 send-fits R block terms g =
     record {
       size = λ room e. sent-length R (block_bits (length block)) (transport block) terms g (send-allocated R block terms g room e);
-      room = λ room e. let h = (send-answers R block terms g room (sym e)).only-done refl in ltb-false room g h.1.1.1.1.1.1.1.1.0;
+      room = λ room e. let h = (send-answers R block terms g room (sym e)).only_done refl in ltb-false room g h.1.1.1.1.1.1.1.1.0;
     }
 
 send_writes : {R block : List ℕ} {terms : Terms} {g : ℕ} {out : List ℕ} {r : Written} {o : List ℕ} → Sent R block terms g out r o
@@ -317,7 +317,7 @@ unfolding NoneHolds
 receive-fits R a terms bits =
     record {
       size = λ room e. received-size R (a / 8) terms bits;
-      room = λ room e. let h = (receive-answers R a terms bits room (sym e)).only-done refl in ltb-false room (a / 8) h.1.1.1.1.1.1.1.1.0;
+      room = λ room e. let h = (receive-answers R a terms bits room (sym e)).only_done refl in ltb-false room (a / 8) h.1.1.1.1.1.1.1.1.0;
     }
 
 receive_writes : {R : List ℕ} {a : ℕ} {terms : Terms} {bits out : List ℕ} {r : Written} {o : List ℕ} → Received R a terms bits out r o
@@ -349,7 +349,7 @@ module _ (c : List ℕ) where
   code-word-fits =
       record {
         size = λ room e. length-streams c;
-        room = λ room e. let h = (code-word-answers room (sym e)).only-done refl in ltb-false room (length c + length c + length c) h.1.0;
+        room = λ room e. let h = (code-word-answers room (sym e)).only_done refl in ltb-false room (length c + length c + length c) h.1.0;
       }
 
   pub code_word-number : {out : List ℕ} {r : Written} {o : List ℕ} → WordCoded c out r o → Answers r.number (code_word_conditions c (length out))
@@ -373,7 +373,7 @@ module _ (D : ℕ) (S : List ℕ) (e : ℕ) where
   match-streams-fits =
       record {
         size = λ room q. length-sent D S e;
-        room = λ room q. let h = (match-streams-answers room (sym q)).only-done refl in ltb-false room e h.1.1.0;
+        room = λ room q. let h = (match-streams-answers room (sym q)).only_done refl in ltb-false room e h.1.1.0;
       }
 
   pub match_streams-number : {out : List ℕ} {r : Written} {o : List ℕ} → StreamsMatched D S e out r o
@@ -398,7 +398,7 @@ module _ (c : List ℕ) (e : ℕ) where
   send-word-fits =
       record {
         size = λ room q. length-sent (length c) (streams c) e;
-        room = λ room q. let h = (send-word-answers room (sym q)).only-done refl in ltb-false room e h.1.1.0;
+        room = λ room q. let h = (send-word-answers room (sym q)).only_done refl in ltb-false room e h.1.1.0;
       }
 
   pub send_word-number : {out : List ℕ} {r : Written} {o : List ℕ} → WordSent c e out r o → Answers r.number (send_word_conditions c e (length out))
@@ -421,7 +421,7 @@ module _ (D : ℕ) (bits : List ℕ) where
   streams-of-fits =
       record {
         size = λ room q. found-length D bits;
-        room = λ room q. let h = (streams-of-answers room (sym q)).only-done refl in ltb-false room (D + D + D) h.1.1.0;
+        room = λ room q. let h = (streams-of-answers room (sym q)).only_done refl in ltb-false room (D + D + D) h.1.1.0;
       }
 
   pub streams_of-number : {out : List ℕ} {r : Written} {o : List ℕ} → StreamsFound D bits out r o
@@ -450,7 +450,7 @@ module _ (D : ℕ) (heard : List ℕ) where
   nearest-word-fits =
       record {
         size = λ room q. length_digits D (nearest D heard);
-        room = λ room q. let h = (nearest-word-answers room (sym q)).only-done refl in ltb-false room D h.1.1.0;
+        room = λ room q. let h = (nearest-word-answers room (sym q)).only_done refl in ltb-false room D h.1.1.0;
       }
 
   found-writes : {out : List ℕ} {r : Closest} {o : List ℕ} → WordFound D heard out r o
@@ -486,7 +486,7 @@ module _ (S : List ℕ) (t p : ℕ) (R : List ℕ) where
   put_fits =
       record {
         size = λ room e. refl;
-        room = λ room e. let h = (put-answers room (sym e)).only-done refl in ltb-false room (length (shelf_put S t p R)) h.1.1.1.1.1.0;
+        room = λ room e. let h = (put-answers room (sym e)).only_done refl in ltb-false room (length (shelf_put S t p R)) h.1.1.1.1.1.0;
       }
 
   put-writes : {out : List ℕ} {r : Written} {o : List ℕ} → RecordPut S t p R out r o
@@ -514,7 +514,7 @@ module _ (S : List ℕ) (t p : ℕ) where
   remove-fits =
       record {
         size = λ room e. refl;
-        room = λ room e. let h = (remove-answers room (sym e)).only-done refl in ltb-false room (length (shelf_left S t p)) h.1.1.1.0;
+        room = λ room e. let h = (remove-answers room (sym e)).only_done refl in ltb-false room (length (shelf_left S t p)) h.1.1.1.0;
       }
 
   remove-writes : {out : List ℕ} {r : Written} {o : List ℕ} → RecordRemoved S t p out r o

@@ -119,7 +119,7 @@ module _ (S : List ℕ) (t p : ℕ) (R : List ℕ) {out : List ℕ} {r : Written
   put-asked : (1 ≤ t) × (private_shelf S ≡ true) × (overfull (entries_put S t p R) ≡ false)
   unfolding NoneHolds
   put-asked =
-      let none = (put-number S t p R h).only-done done in
+      let none = (put-number S t p R h).only_done done in
       let zero = eqb-false t 0 none.0 in
       (omega arith, not-false (private_shelf S) none.1.0, none.1.1.1.1.0)
 
@@ -163,7 +163,7 @@ module _ (S : List ℕ) (t p : ℕ) {out : List ℕ} {r : Written} {o : List ℕ
   remove-asked : (1 ≤ t) × (private_shelf S ≡ true)
   unfolding NoneHolds
   remove-asked =
-      let none = (remove-number S t p h).only-done done in
+      let none = (remove-number S t p h).only_done done in
       let zero = eqb-false t 0 none.0 in
       (omega arith, not-false (private_shelf S) none.1.0)
 

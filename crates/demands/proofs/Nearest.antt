@@ -36,14 +36,14 @@ module _ (D : ℕ) (heard : List ℕ) {out : List ℕ} {r : Closest} {o : List �
   reported = found.differences ∙ when-done (nearest_word_number D heard (length out)) (away D heard (nearest D heard)) 0 done
 
   -- the word that is written
-  pub word-is : take r.count o ≡ digits D (nearest D heard)
-  word-is =
+  pub word_is : take r.count o ≡ digits D (nearest D heard)
+  word_is =
       ap (λ (n : ℕ). take n o) (found.count ∙ when-done (nearest_word_number D heard (length out)) D 0 done)
       ∙ ap (take D) (found.output ∙ when-done (nearest_word_number D heard (length out)) (digits D (nearest D heard) ++ drop D out) out done)
       ∙ take_at (digits D (nearest D heard)) (drop D out) D (length_digits D (nearest D heard))
 
   pub word_of_bits : AreBits (take r.count o) × (length (take r.count o) ≡ D)
-  word_of_bits = (rw word-is (digits-bits D (nearest D heard)), ap length word-is ∙ length_digits D (nearest D heard))
+  word_of_bits = (rw word_is (digits-bits D (nearest D heard)), ap length word_is ∙ length_digits D (nearest D heard))
 
   -- a word as a number
   away_of : (c : List ℕ) → AreBits c → length c ≡ D → (away D heard (value_of c) ≡ differences (streams c) heard) × (value_of c < 2 ^ D)
@@ -60,13 +60,13 @@ module _ (D : ℕ) (heard : List ℕ) {out : List ℕ} {r : Closest} {o : List �
   -- "find the input word whose tail-biting code differs in the fewest places, and that number of places"
   pub differences_attained : differences (streams (take r.count o)) heard ≡ r.differences
   unfolding away
-  differences_attained = ap (λ (w : List ℕ). differences (streams w) heard) word-is ∙ sym reported
+  differences_attained = ap (λ (w : List ℕ). differences (streams w) heard) word_is ∙ sym reported
 
   -- "Among equals take the smallest, read as binary with the first bit highest"
   pub smallest-taken : (c : List ℕ) → AreBits c → length c ≡ D → differences (streams c) heard ≡ r.differences → value_of (take r.count o) ≤ value_of c
   smallest-taken c bits e q =
       let a = away_of c bits e in
-      let is : value_of (take r.count o) ≡ nearest D heard = ap value_of word-is ∙ value-digits D (nearest D heard) (nearest_lt D heard) in
+      let is : value_of (take r.count o) ≡ nearest D heard = ap value_of word_is ∙ value-digits D (nearest D heard) (nearest_lt D heard) in
       omega (arith, is, smallest_of_equals D heard (value_of c) a.1 (a.0 ∙ q ∙ reported))
 
 -- ---- an unharmed word is read as it is

@@ -40,5 +40,5 @@ answers l r e =
       given = λ n h. e ∙ first-answered l n h;
       only = λ n some q. answered-first l n some (sym e ∙ q);
       done = λ h. e ∙ none-answered l h;
-      only-done = λ q. answered-none l r (sym e ∙ q);
+      only_done = λ q. answered-none l r (sym e ∙ q);
     }

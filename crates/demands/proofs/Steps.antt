@@ -16,13 +16,13 @@ use Rattle.bits.proofs.Ranges.{equal_or, below_or}
 use Rattle.bits.proofs.Sums.{sum_same}
 use Rattle.checksum.specs.Crc.{attached}
 use Rattle.profile.specs.Record.{kb, m, kind, rows, columns, z, table}
-use Rattle.profile.proofs.Shape.{columns-is}
+use Rattle.profile.proofs.Shape.{columns_is}
 use Rattle.cutting.specs.Plan.{block_bits, kmax, sum_bits, blocks, own_bits, size_index, places}
 use Rattle.cutting.specs.Promises.{plan_number}
 use Rattle.cutting.specs.Transport.{transport}
 use Rattle.cutting.specs.Cutting.{own_start, own, carried, systematic}
 use Rattle.cutting.proofs.Summed.{sum-none, sum-single, sum-there, without_sum, with_its_sum}
-use Rattle.cutting.proofs.Carried.{carried-fits, own-size, carried-size}
+use Rattle.cutting.proofs.Carried.{carried_fits, own-size, carried-size}
 use Rattle.cutting.proofs.Plans.{Cut, plan-passed, plan-cut}
 use Rattle.cutting.proofs.Transported.{length-transport, transport-bits}
 use Rattle.parity.specs.Matrix.{checks}
@@ -77,7 +77,7 @@ module _ (R : List ℕ) (ed : ℕ) (block : List ℕ) (taken : plan_number R ed 
   unfolding own_start mine
   own-together =
       joined_same (own R ed b u) (λ r. take (mine r) (drop (own_start R ed b r) u)) c (λ r l. own_is r) ∙ joined-cut mine u c
-      ∙ ap (λ (n : ℕ). take n u) cut.own-sum ∙ take_all b u (omega (arith, size))
+      ∙ ap (λ (n : ℕ). take n u) cut.own_sum ∙ take_all b u (omega (arith, size))
 
   -- ---- what a block carries
 
@@ -111,14 +111,14 @@ module _ (R : List ℕ) (ed : ℕ) (block : List ℕ) (taken : plan_number R ed 
   sys_size r l =
       let o = length (load r) in
       length-append (load r) (replicate (places R ed b - o) 2)
-      ∙ omega (arith, carried-size R ed b u cut size r l, length-replicate {A = ℕ} (places R ed b - o) 2, cut.product, carried-fits R ed b cut r)
+      ∙ omega (arith, carried-size R ed b u cut size r l, length-replicate {A = ℕ} (places R ed b - o) 2, cut.product, carried_fits R ed b cut r)
 
   abbrev word : ℕ → List ℕ
   word r = coded_block R ed b u r
 
-  word-is : (r : ℕ) → word r ≡ coded (table R i) (rows R) (columns R) (z R i) (sys r)
+  word_is : (r : ℕ) → word r ≡ coded (table R i) (rows R) (columns R) (z R i) (sys r)
   unfolding coded_block
-  word-is r = refl
+  word_is r = refl
 
   pub stairs : Solvable (table R i) (kb R) (m R) (rows R) (columns R)
   stairs = table-stairs R (plan-passed R ed (length block) taken).0 i cut.size
@@ -127,15 +127,15 @@ module _ (R : List ℕ) (ed : ℕ) (block : List ℕ) (taken : plan_number R ed 
   unfolding block_places block_index coded_length systematic with_filler
   word-coded r l =
       record {
-        systematic = ap (take (places R ed b)) (word-is r)
+        systematic = ap (take (places R ed b)) (word_is r)
             ∙ ap (λ (n : ℕ). take n (coded (table R i) (rows R) (columns R) (z R i) (sys r))) cut.product
             ∙ coded-take (table R i) (rows R) (columns R) (z R i) (sys r) (kb R) (sys_size r l);
-        long = ap length (word-is r) ∙ coded-length (table R i) (rows R) (columns R) (z R i) (sys r) (kb R) (sys_size r l) (columns-is R)
-            ∙ omega (arith, cut.product, ap (λ (n : ℕ). n * z R i) (columns-is R), add-mul (kb R) (rows R) (z R i));
+        long = ap length (word_is r) ∙ coded-length (table R i) (rows R) (columns R) (z R i) (sys r) (kb R) (sys_size r l) (columns_is R)
+            ∙ omega (arith, cut.product, ap (λ (n : ℕ). n * z R i) (columns_is R), add-mul (kb R) (rows R) (z R i));
         parity = λ p h.
-            subst (λ (w : List ℕ). get_or w p 0 < 2) (sym (word-is r))
+            subst (λ (w : List ℕ). get_or w p 0 < 2) (sym (word_is r))
             (coded-bits (table R i) (rows R) (columns R) (z R i) (sys r) (kb R) (sys_size r l) p (omega (arith, cut.product)));
-        checked = ap (checks (table R i) (rows R) (columns R) (z R i)) (word-is r)
+        checked = ap (checks (table R i) (rows R) (columns R) (z R i)) (word_is r)
             ∙ coded-checks (table R i) (rows R) (columns R) (z R i) (sys r) (kb R) (sys_size r l) stairs;
       }
 
@@ -146,8 +146,8 @@ module _ (R : List ℕ) (ed : ℕ) (block : List ℕ) (taken : plan_number R ed 
       let front : take (kb R * z R i) w ≡ sys r =
       ap (λ (n : ℕ). take n w) (sym cut.product) ∙ h.systematic in
       coded-unique (table R i) (rows R) (columns R) (z R i) (sys r) (kb R) (sys_size r l) stairs w
-      (h.long ∙ omega (arith, cut.product, ap (λ (n : ℕ). n * z R i) (columns-is R), add-mul (kb R) (rows R) (z R i))) front (λ p k. h.parity p (omega (arith, cut.product))) h.checked
-      ∙ sym (word-is r)
+      (h.long ∙ omega (arith, cut.product, ap (λ (n : ℕ). n * z R i) (columns_is R), add-mul (kb R) (rows R) (z R i))) front (λ p k. h.parity p (omega (arith, cut.product))) h.checked
+      ∙ sym (word_is r)
 
 -- ---- the radio bits
 

@@ -18,7 +18,7 @@ pub record Answers (number : ℕ) (l : List (ℕ × Bool)) : Type 0 where
   pub given : (n : ℕ) → First n l → number ≡ n
   pub only : (n : ℕ) → (n ≡ 0 → ⊥) → number ≡ n → First n l
   pub done : NoneHolds l → number ≡ 0
-  pub only-done : number ≡ 0 → NoneHolds l
+  pub only_done : number ≡ 0 → NoneHolds l
 
 -- ---- the lists rise by rank, so that there before means below
 

@@ -10,7 +10,7 @@ use crate::spot::Spot;
 use bits::number::{DONE, FULL_SHELF, NO_RECORD, PRIVATE_SHELF, SHORT_OUTPUT, TENANT_ZERO};
 use shelf::inner::{entry, form};
 
-#[derive(Drop)]
+#[derive(Clone, Copy)]
 pub struct Change {
     pub number: u32,
     pub at: usize,

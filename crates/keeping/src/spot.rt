@@ -6,7 +6,7 @@ ghost use Rattle.keeping.specs.Steps.Places.{Spotted, freed};
 use shelf::inner::{entry, find};
 
 // `at` entries have a pair below the one that is asked for; `gone` is 1 where the next one has that pair, else 0.
-#[derive(Drop)]
+#[derive(Clone, Copy)]
 pub struct Spot {
     pub at: usize,
     pub gone: usize,

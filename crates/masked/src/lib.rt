@@ -1,4 +1,6 @@
 // Checksums of single bits under a mask (document 02, CR 9), for broadcast and control words: the sum, a word with it appended, and the test of a word.
+#![tactic(auto)]
+
 ghost use Rattle.std.specs.Prelude.{◌≡◌, cond, ◌&&◌, ◌++◌, ◌+◌, ◌-◌, ◌≤◌, eqb, leb, ltb, length, drop};
 ghost use Rattle.std.proofs.lemmas.List.Edits.{sets};
 ghost use Rattle.bits.specs.Bits.{AreBits, digits, value_of};
@@ -9,7 +11,7 @@ use checksum::Sum;
 
 // A test's answer: its number, and whether the word was appended under the mask, no with a refusal.
 #[repr(C)]
-#[derive(Drop)]
+#[derive(Clone, Copy)]
 pub struct Tested {
     pub number: u32,
     pub holds: bool,

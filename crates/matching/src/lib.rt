@@ -1,4 +1,6 @@
 // Step 6 of document 01, from the start of document 02, CR 3: rate matching of one coded block, and the way back from a stretch of bits to a coded word.
+#![tactic(auto)]
+
 pub mod inner;
 mod line;
 mod marks;

@@ -65,8 +65,8 @@ module _ (f : ℕ → ℕ → ℕ) (D : ℕ) where
       record {
         goal = first;
         inside = l;
-        cost-is = refl;
-        word-is = refl;
+        cost_is = refl;
+        word_is = refl;
         len = length-set left first 65535 ∙ r.len;
         others = λ s m h.
             equal_or s first
@@ -102,8 +102,8 @@ module _ (f : ℕ → ℕ → ℕ) (D : ℕ) where
         record {
           goal = goal;
           inside = l;
-          cost-is = v-is;
-          word-is = w-is;
+          cost_is = v-is;
+          word_is = w-is;
           len = length-set left goal 65535 ∙ b.len;
           others = kept;
           fewest = λ s m h.
@@ -123,8 +123,8 @@ module _ (f : ℕ → ℕ → ℕ) (D : ℕ) where
         record {
           goal = b.goal;
           inside = b.inside;
-          cost-is = b.cost-is;
-          word-is = b.word-is;
+          cost_is = b.cost_is;
+          word_is = b.word_is;
           len = length-set left goal 65535 ∙ b.len;
           others = kept;
           fewest = λ s m h. equal_or s goal (λ q. rw q low) (λ n. b.fewest s m (off s n h));
@@ -233,13 +233,13 @@ module _ (D : ℕ) (heard T : List ℕ) (given : Given D heard T) (left : List �
       )
 
   best-length : length w ≡ D
-  best-length = ap length b.word-is ∙ length-goal (cost T) D b.goal
+  best-length = ap length b.word_is ∙ length-goal (cost T) D b.goal
 
   best-bits : AreBits w
-  best-bits = rw b.word-is (bits-goal (cost T) D b.goal)
+  best-bits = rw b.word_is (bits-goal (cost T) D b.goal)
 
   best-charge : charge (cost T) (end_at b.goal) 0 b.goal w ≡ v
-  best-charge = ap (λ (x : List ℕ). charge (cost T) (end_at b.goal) 0 b.goal x) b.word-is ∙ goal_attains (cost T) D b.goal ∙ sym b.cost-is
+  best-charge = ap (λ (x : List ℕ). charge (cost T) (end_at b.goal) 0 b.goal x) b.word_is ∙ goal_attains (cost T) D b.goal ∙ sym b.cost_is
 
   -- the best word ends at its own start, for some word costs no more than 384
   pub best_attains : differences (streams w) heard ≡ v

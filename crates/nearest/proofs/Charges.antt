@@ -15,7 +15,7 @@ use Rattle.control.proofs.Registers.{length-stream, length-streams, comes_round,
 use Rattle.nearest.specs.Nearest.{unlike, differences}
 use Rattle.nearest.specs.Steps.Trellis.{end_at, end_open, charge, cost}
 use Rattle.nearest.specs.Steps.Rows.{Heard, AtMost}
-use Rattle.nearest.proofs.Tolls.{cost-is}
+use Rattle.nearest.proofs.Tolls.{cost_is}
 
 unlike-most : (x y : ℕ) → unlike x y ≤ 1
 unfolding unlike
@@ -79,7 +79,7 @@ module _ (D : ℕ) (heard T : List ℕ) (size : length heard ≡ D + D + D) (sin
       let three : drop (D + D + k) heard ≡ get_or heard (D + D + k) 0 ∷ drop (D + D + suc k) heard =
       drop-cons heard (D + D + k) 0 (omega arith) ∙ ap (λ (j : ℕ). get_or heard (D + D + k) 0 ∷ drop j heard) (sym (add-suc (D + D) k)) in
       let rest = charge-is E (suc k) ((b * 64 + s) / 2) w (omega arith) in
-      rw (one, two, three) (omega (arith, rest, cost-is D heard T k (b * 64 + s) single t (omega arith)))
+      rw (one, two, three) (omega (arith, rest, cost_is D heard T k (b * 64 + s) single t (omega arith)))
 
   -- the streams of any start, one behind the other
   split-streams : (s : ℕ) (c : List ℕ) → length c ≡ D

@@ -76,7 +76,7 @@ module _ (f : ℕ → ℕ → ℕ) (D : ℕ) where
 
   -- a goal that is still left, and what the best costs
   pub best_low : (left : List ℕ) (v : ℕ) (w : List ℕ) → ((goal : ℕ) → goal < 64 → goal_cost f D goal ≤ 884) → Best f D left v w → v ≤ 884
-  best_low left v w low b = let m = low b.goal b.inside in omega (arith, m, b.cost-is)
+  best_low left v w low b = let m = low b.goal b.inside in omega (arith, m, b.cost_is)
 
   pub next-left : (left : List ℕ) (v : ℕ) (w : List ℕ) (key : ℕ) → Best f D left v w → v ≤ 884 → Least left 64 key → key / 64 ≤ v
       → get_or left (key % 64) 0 < 65535

@@ -40,10 +40,10 @@ three-apart a b c x y z ha hb hc hx hy hz =
     let a-is : (a * 4 + b * 2 + c) / 4 ≡ a = omega arith in
     let b-is : (a * 4 + b * 2 + c) / 2 % 2 ≡ b = omega arith in
     let c-is : (a * 4 + b * 2 + c) % 2 ≡ c = omega arith in
-    let x-is : (x * 4 + y * 2 + z) / 4 ≡ x = omega arith in
+    let x_is : (x * 4 + y * 2 + z) / 4 ≡ x = omega arith in
     let y-is : (x * 4 + y * 2 + z) / 2 % 2 ≡ y = omega arith in
-    let z-is : (x * 4 + y * 2 + z) % 2 ≡ z = omega arith in
-    rw (a-is, b-is, c-is, x-is, y-is, z-is) at (at_pair (a * 4 + b * 2 + c) (x * 4 + y * 2 + z) (omega arith) (omega arith)).0
+    let z_is : (x * 4 + y * 2 + z) % 2 ≡ z = omega arith in
+    rw (a-is, b-is, c-is, x_is, y-is, z_is) at (at_pair (a * 4 + b * 2 + c) (x * 4 + y * 2 + z) (omega arith) (omega arith)).0
 
 output-bit : (g r : ℕ) → output g r < 2
 unfolding output
@@ -67,10 +67,10 @@ unfolding heard_at
 heard-three D heard k i j l a b c = rw (a, b, c)
 
 -- what a step costs, stream by stream
-pub cost-is : (D : ℕ) (heard T : List ℕ) (k r : ℕ) → AreBits heard → Heard D heard D T → k < D
+pub cost_is : (D : ℕ) (heard T : List ℕ) (k r : ℕ) → AreBits heard → Heard D heard D T → k < D
     → cost T k r ≡ unlike (output 0o133 r) (get_or heard k 0) + unlike (output 0o171 r) (get_or heard (D + k) 0) + unlike (output 0o165 r) (get_or heard (D + D + k) 0)
 unfolding three_of heard_at price cost
-cost-is D heard T k r h t l =
+cost_is D heard T k r h t l =
     ap (λ (x : ℕ). ones (bit_xor (output 0o133 r * 4 + output 0o171 r * 2 + output 0o165 r) x)) (t.at k l)
     ∙ three-apart (output 0o133 r) (output 0o171 r) (output 0o165 r) (get_or heard k 0) (get_or heard (D + k) 0) (get_or heard (D + D + k) 0)
     (output-bit 0o133 r) (output-bit 0o171 r) (output-bit 0o165 r) (h k) (h (D + k)) (h (D + D + k))

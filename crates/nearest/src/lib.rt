@@ -1,4 +1,6 @@
 // The nearest control word (document 02, CR 10): the word of d bits whose tail-biting code differs in the fewest places from three streams that were heard.
+#![tactic(auto)]
+
 mod gate;
 mod goals;
 mod prices;
@@ -11,7 +13,7 @@ use bits::number::DONE;
 
 // The answer: its number, how many octets were written, and in how many places the code of the word differs; 0 and 0 with a refusal.
 #[repr(C)]
-#[derive(Drop)]
+#[derive(Clone, Copy)]
 pub struct Closest {
     pub number: u32,
     pub count: usize,

@@ -136,7 +136,7 @@ module _ (T : List ℕ) (rows columns z : ℕ) (w : List ℕ) where
   pub sums-row : {j i n at e : ℕ} {g a b : List ℕ} → Shape T rows columns z → Doubled w (j * z) z g → i < rows → n ≡ i + 1 → at ≡ i * lanes → e ≡ i * columns + j
       → Sums T rows columns z w j i a → Run (span z) (entered a at (get_or T e 0) g) a at b → Sums T rows columns z w j n b
   sums-row {j} {i} {n} {at} {e} {g} {a} {b} shape d h next p q sums r =
-      rw next (row_made j i (span z) g a b shape (span-wide z shape.z-most) (span_fits z shape.z-most) d h sums (subst₂ (λ (x y : ℕ). Run (span z) (entered a x (get_or T y 0) g) a x b) p q r))
+      rw next (row_made j i (span z) g a b shape (span-wide z shape.z_most) (span_fits z shape.z_most) d h sums (subst₂ (λ (x y : ℕ). Run (span z) (entered a x (get_or T y 0) g) a x b) p q r))
 
   -- a whole column more
   pub sums-column : {j i : ℕ} {s : List ℕ} → rows ≤ i → Sums T rows columns z w j i s → Sums T rows columns z w (j + 1) 0 s

@@ -31,11 +31,11 @@ module _ (R : List ℕ) (e : judged R ≡ 0) (i : ℕ) (below : i < t R) where
       record {
         size = a.long i below ∙ a.area;
         shifts = a.shifts i below;
-        z-some = a.z-low i below;
-        z-most = a.z-high i below;
-        rows-some = omega (arith, a.rows-low);
-        rows-most = a.rows-high;
-        columns-most = a.columns-high;
+        z_some = a.z_low i below;
+        z_most = a.z_high i below;
+        rows_some = omega (arith, a.rows_low);
+        rows_most = a.rows_high;
+        columns_most = a.columns_high;
       }
 
   pub table-stairs : Solvable (table R i) (kb R) (m R) (rows R) (columns R)
@@ -43,7 +43,7 @@ module _ (R : List ℕ) (e : judged R ≡ 0) (i : ℕ) (below : i < t R) where
       let a = accepted R e in
       record {
         tall = omega (arith, a.rows_are);
-        wide = a.columns-are;
+        wide = a.columns_are;
         stairs = staircase-is (table R i) (kb R) (m R) (columns R) (a.stairs i below);
         extension = rw a.rows_are (extended-is (table R i) (kb R) (m R) (x R) (columns R) (a.extended i below));
       }
@@ -51,7 +51,7 @@ module _ (R : List ℕ) (e : judged R ≡ 0) (i : ℕ) (below : i < t R) where
   -- and what coding asks of it, for a word that is long enough
   pub table-codable : (w : List ℕ) → length w ≡ columns R * z R i → Codable (table R i) (kb R) (m R) (rows R) (columns R) (z R i) w
   table-codable w long =
-      record { shape = table-shape; some = omega (arith, (accepted R e).m-low); tall = table-stairs.tall; wide = table-stairs.wide; long = long }
+      record { shape = table-shape; some = omega (arith, (accepted R e).m_low); tall = table-stairs.tall; wide = table-stairs.wide; long = long }
 
 -- ---- the table of a size z'
 
@@ -80,7 +80,7 @@ ready R z' e h =
 pub places-most : (R : List ℕ) (z' : ℕ) → judged R ≡ 0 → has_size R z' ≡ true → (c : ℕ) → c ≡ columns R → c * z' ≤ 4860
 places-most R z' e h c c-is =
     let shape = (ready R z' e h).shape in
-    rw c-is (mul-le-mul shape.columns-most shape.z-most)
+    rw c-is (mul-le-mul shape.columns_most shape.z_most)
 
 pub table_read : (R : List ℕ) (z' i : ℕ) (T : List ℕ) → T ≡ table R i → i ≡ first_below (t R) (λ j. eqb (z R j) z') → T ≡ table_for R z'
 unfolding table_for

@@ -1,4 +1,6 @@
 // The parity check of section 5.1.3.2: coding one block of places; checking a word, where it is asked for by the crates above.
+#![tactic(auto)]
+
 mod extension;
 mod gate;
 pub mod inner;

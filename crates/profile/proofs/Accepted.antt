@@ -13,27 +13,27 @@ use Rattle.profile.specs.Record.{kb, m, x, kind, t, z, offset, rows, columns, ta
 use Rattle.profile.specs.Staircase.{staircase, extended, staircases}
 use Rattle.profile.specs.Promises.{judged}
 use Rattle.profile.specs.Steps.Shape.{shape_right}
-use Rattle.profile.proofs.Shape.{rows_is, columns-is, area-is, Shape, shape_is, table-long, rise, formed-is, entries_below}
+use Rattle.profile.proofs.Shape.{rows_is, columns_is, area-is, Shape, shape_is, table-long, rise, formed-is, entries_below}
 
 pub record Accepted (R : List ℕ) : Type 0 where
-  pub kb-low : 1 ≤ kb R
-  pub kb-high : kb R ≤ 20
-  pub m-low : 3 ≤ m R
-  pub m-high : m R ≤ 12
-  pub x-high : x R ≤ 37
-  pub kind-low : 1 ≤ kind R
-  pub kind-high : kind R ≤ 2
+  pub kb_low : 1 ≤ kb R
+  pub kb_high : kb R ≤ 20
+  pub m_low : 3 ≤ m R
+  pub m_high : m R ≤ 12
+  pub x_high : x R ≤ 37
+  pub kind_low : 1 ≤ kind R
+  pub kind_high : kind R ≤ 2
   pub plain : kind R ≡ 1 → x R ≡ 0
-  pub t-low : 1 ≤ t R
-  pub t-high : t R ≤ 3
-  pub rows-low : 3 ≤ rows R
-  pub rows-high : rows R ≤ 40
+  pub t_low : 1 ≤ t R
+  pub t_high : t R ≤ 3
+  pub rows_low : 3 ≤ rows R
+  pub rows_high : rows R ≤ 40
   pub rows_are : rows R ≡ m R + x R
-  pub columns-low : 4 ≤ columns R
-  pub columns-high : columns R ≤ 60
+  pub columns_low : 4 ≤ columns R
+  pub columns_high : columns R ≤ 60
   pub columns_are : columns R ≡ kb R + rows R
-  pub z-low : (i : ℕ) → i < t R → 1 ≤ z R i
-  pub z-high : (i : ℕ) → i < t R → z R i ≤ 81
+  pub z_low : (i : ℕ) → i < t R → 1 ≤ z R i
+  pub z_high : (i : ℕ) → i < t R → z R i ≤ 81
   pub rise : (i j : ℕ) → i < j → j < t R → z R i < z R j
   pub chained : (i : ℕ) → i < t R → offset R i ≡ offset_due R i
   pub inside : (i : ℕ) → i < t R → offset R i + table_size R ≤ length R
@@ -67,26 +67,26 @@ module _ (R : List ℕ) where
   accepted e =
       let tests = tests_passed e in
       let s = accepted-shape e in
-      let low : (i : ℕ) → i < t R → 1 ≤ z R i = λ i l. (s.size i l).z-low in
+      let low : (i : ℕ) → i < t R → 1 ≤ z R i = λ i l. (s.size i l).z_low in
       record {
-        kb-low = s.header.kb-low;
-        kb-high = s.header.kb-high;
-        m-low = s.header.m-low;
-        m-high = s.header.m-high;
-        x-high = s.header.x-high;
-        kind-low = s.header.kind-low;
-        kind-high = s.header.kind-high;
+        kb_low = s.header.kb_low;
+        kb_high = s.header.kb_high;
+        m_low = s.header.m_low;
+        m_high = s.header.m_high;
+        x_high = s.header.x_high;
+        kind_low = s.header.kind_low;
+        kind_high = s.header.kind_high;
         plain = s.header.plain;
-        t-low = s.header.t-low;
-        t-high = s.header.t-high;
-        rows-low = s.header.rows-low;
-        rows-high = s.header.rows-high;
+        t_low = s.header.t_low;
+        t_high = s.header.t_high;
+        rows_low = s.header.rows_low;
+        rows_high = s.header.rows_high;
         rows_are = rows_is R;
-        columns-low = s.header.columns-low;
-        columns-high = s.header.columns-high;
-        columns_are = columns-is R;
-        z-low = low;
-        z-high = λ i l. (s.size i l).z-high;
+        columns_low = s.header.columns_low;
+        columns_high = s.header.columns_high;
+        columns_are = columns_is R;
+        z_low = low;
+        z_high = λ i l. (s.size i l).z_high;
         rise = rise R s;
         chained = λ i l. (s.size i l).chained;
         inside = s.inside;

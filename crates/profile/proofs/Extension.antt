@@ -119,17 +119,17 @@ module _ {T : List ℕ} {kb m x columns : ℕ} (s : Whole T kb m x columns) wher
   stepped =
       record {
         size = omega (arith, s.size, mul-le-mul_right {m = m} {n = m + x} columns (omega arith));
-        wide = omega (arith, s.columns-are);
-        columns-high = omega (arith, s.columns-are, s.kb-high, s.rows-high);
-        m-low = s.m-low;
-        m-high = s.m-high;
+        wide = omega (arith, s.columns_are);
+        columns_high = omega (arith, s.columns_are, s.kb_high, s.rows_high);
+        m_low = s.m_low;
+        m_high = s.m_high;
       }
 
   -- each row lies inside it
   pub row-whole : (r : ℕ) → r < m + x → (r * columns + columns ≤ length T) × (length T ≤ 2400)
   row-whole r l =
-      let columns-high : columns ≤ 60 = omega (arith, s.columns-are, s.kb-high, s.rows-high) in
-      let all : (m + x) * columns ≤ 40 * 60 = mul-le-mul s.rows-high columns-high in (
+      let columns_high : columns ≤ 60 = omega (arith, s.columns_are, s.kb_high, s.rows_high) in
+      let all : (m + x) * columns ≤ 40 * 60 = mul-le-mul s.rows_high columns_high in (
         omega (arith, s.size, suc-mul r columns, mul-le-mul_right {m = suc r} {n = m + x} columns l),
         omega (arith, s.size),
       )

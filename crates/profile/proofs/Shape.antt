@@ -43,9 +43,9 @@ module _ (R : List ℕ) where
   unfolding rows
   rows_is = refl
 
-  pub columns-is : columns R ≡ kb R + rows R
+  pub columns_is : columns R ≡ kb R + rows R
   unfolding columns
-  columns-is = refl
+  columns_is = refl
 
   pub area-is : table_size R ≡ rows R * columns R
   unfolding table_size
@@ -55,20 +55,20 @@ module _ (R : List ℕ) where
 
 pub record Header (R : List ℕ) : Type 0 where
   pub long : 10 ≤ length R
-  pub kb-low : 1 ≤ kb R
-  pub kb-high : kb R ≤ 20
-  pub m-low : 3 ≤ m R
-  pub m-high : m R ≤ 12
-  pub x-high : x R ≤ 37
-  pub kind-low : 1 ≤ kind R
-  pub kind-high : kind R ≤ 2
+  pub kb_low : 1 ≤ kb R
+  pub kb_high : kb R ≤ 20
+  pub m_low : 3 ≤ m R
+  pub m_high : m R ≤ 12
+  pub x_high : x R ≤ 37
+  pub kind_low : 1 ≤ kind R
+  pub kind_high : kind R ≤ 2
   pub plain : kind R ≡ 1 → x R ≡ 0
-  pub t-low : 1 ≤ t R
-  pub t-high : t R ≤ 3
-  pub rows-low : 3 ≤ rows R
-  pub rows-high : rows R ≤ 40
-  pub columns-low : 4 ≤ columns R
-  pub columns-high : columns R ≤ 60
+  pub t_low : 1 ≤ t R
+  pub t_high : t R ≤ 3
+  pub rows_low : 3 ≤ rows R
+  pub rows_high : rows R ≤ 40
+  pub columns_low : 4 ≤ columns R
+  pub columns_high : columns R ≤ 60
 
 -- tests may change places, and one that follows from another may be left out
 in_turn : (a b c : Bool) → a && b && c ≡ a && c && b
@@ -84,12 +84,12 @@ left_out true false f = refl
 left_out false false f = refl
 
 pub record Ranges (k n s : ℕ) : Type 0 where
-  pub kb-low : 1 ≤ k
-  pub kb-high : k ≤ 20
-  pub m-low : 3 ≤ n
-  pub m-high : n ≤ 12
-  pub t-low : 1 ≤ s
-  pub t-high : s ≤ 3
+  pub kb_low : 1 ≤ k
+  pub kb_high : k ≤ 20
+  pub m_low : 3 ≤ n
+  pub m_high : n ≤ 12
+  pub t_low : 1 ≤ s
+  pub t_high : s ≤ 3
 
 pub ranges_are : (k n s : ℕ) → ranges_right k n s ≡ true → Ranges k n s
 unfolding ranges_right
@@ -99,7 +99,7 @@ ranges_are k n s e =
     let a = within-is 1 20 k one.0 in
     let b = within-is 3 12 n one.1 in
     let c = within-is 1 3 s two.1 in
-    record { kb-low = a.0; kb-high = a.1; m-low = b.0; m-high = b.1; t-low = c.0; t-high = c.1 }
+    record { kb_low = a.0; kb_high = a.1; m_low = b.0; m_high = b.1; t_low = c.0; t_high = c.1 }
 
 module _ (R : List ℕ) where
   kind-is : kind_right R ≡ true → (x R ≤ 37) × (rows R ≤ 40) × (1 ≤ kind R) × (kind R ≤ 2) × (kind R ≡ 1 → x R ≡ 0)
@@ -117,9 +117,9 @@ module _ (R : List ℕ) where
       )
 
   -- from 3 rows of the staircase on, 40 rows leave 37 for the extension
-  kind_fits : 3 ≤ m R → kind_right R ≡ kind_fits (m R) (x R) (kind R)
+  kind-is_right : 3 ≤ m R → kind_right R ≡ kind_fits (m R) (x R) (kind R)
   unfolding kind_right kind_fits rows
-  kind_fits low =
+  kind-is_right low =
       let few : leb (m R + x R) 40 ≡ true → leb (x R) 37 ≡ true = λ e. le-leb (x R) 37 (omega (arith, leb-true (m R + x R) 40 e)) in
       ap (λ (b : Bool). b && within 1 2 (kind R) && (eqb (kind R) 2 || eqb (x R) 0)) (left_out (leb (x R) 37) (leb (m R + x R) 40) few)
 
@@ -140,7 +140,7 @@ module _ (R : List ℕ) where
       → (r : Bool) → r ≡ kind_fits (m R) (x R) (kind R) → r ≡ front_right R
   unfolding front_right
   front-third l a r e =
-      rw (le-leb 10 (length R) l, header-in-turn, a, kind_fits (ranges_are (kb R) (m R) (t R) a).m-low) e
+      rw (le-leb 10 (length R) l, header-in-turn, a, kind-is_right (ranges_are (kb R) (m R) (t R) a).m_low) e
 
   pub header_is : front_right R ≡ true → Header R
   unfolding front_right
@@ -151,20 +151,20 @@ module _ (R : List ℕ) where
       let k = kind-is two.1 in
       record {
         long = leb-true 10 (length R) there.0;
-        kb-low = n.kb-low;
-        kb-high = n.kb-high;
-        m-low = n.m-low;
-        m-high = n.m-high;
-        x-high = k.0;
-        kind-low = k.2;
-        kind-high = k.3;
+        kb_low = n.kb_low;
+        kb_high = n.kb_high;
+        m_low = n.m_low;
+        m_high = n.m_high;
+        x_high = k.0;
+        kind_low = k.2;
+        kind_high = k.3;
         plain = k.4;
-        t-low = n.t-low;
-        t-high = n.t-high;
-        rows-low = omega (arith, n.m-low, rows_is R);
-        rows-high = k.1;
-        columns-low = omega (arith, n.kb-low, n.m-low, rows_is R, columns-is R);
-        columns-high = omega (arith, n.kb-high, k.1, columns-is R);
+        t_low = n.t_low;
+        t_high = n.t_high;
+        rows_low = omega (arith, n.m_low, rows_is R);
+        rows_high = k.1;
+        columns_low = omega (arith, n.kb_low, n.m_low, rows_is R, columns_is R);
+        columns_high = omega (arith, n.kb_high, k.1, columns_is R);
       }
 
   -- ---- the length and the sizes
@@ -209,8 +209,8 @@ module _ (R : List ℕ) where
   shape-third a b r e = rw (a, b) e
 
   pub record Size (i : ℕ) : Type 0 where
-    pub z-low : 1 ≤ z R i
-    pub z-high : z R i ≤ 81
+    pub z_low : 1 ≤ z R i
+    pub z_high : z R i ≤ 81
     pub rising : rises R i ≡ true
     pub chained : offset R i ≡ offset_due R i
 
@@ -220,7 +220,7 @@ module _ (R : List ℕ) where
       let two = both (within 1 81 (z R i) && rises R i) (eqb (offset R i) (offset_due R i)) e in
       let one = both (within 1 81 (z R i)) (rises R i) two.0 in
       let range = within-is 1 81 (z R i) one.0 in
-      record { z-low = range.0; z-high = range.1; rising = one.1; chained = eqb-true (offset R i) (offset_due R i) two.1 }
+      record { z_low = range.0; z_high = range.1; rising = one.1; chained = eqb-true (offset R i) (offset_due R i) two.1 }
 
 -- ---- all but the entries
 
@@ -261,11 +261,11 @@ module _ (R : List ℕ) where
     table-whole i l =
         record {
           size = table-long i l ∙ area-is R ∙ ap (λ (n : ℕ). n * columns R) (rows_is R);
-          columns-are = columns-is R ∙ ap (λ (n : ℕ). kb R + n) (rows_is R);
-          kb-high = s.header.kb-high;
-          m-low = s.header.m-low;
-          m-high = s.header.m-high;
-          rows-high = omega (arith, s.header.rows-high, rows_is R);
+          columns_are = columns_is R ∙ ap (λ (n : ℕ). kb R + n) (rows_is R);
+          kb_high = s.header.kb_high;
+          m_low = s.header.m_low;
+          m_high = s.header.m_high;
+          rows_high = omega (arith, s.header.rows_high, rows_is R);
         }
 
     -- strictly rising, from one to the next and so from each to every later one

@@ -1,4 +1,6 @@
 // Profile records: judging one.
+#![tactic(auto)]
+
 mod form;
 pub mod inner;
 mod parts;

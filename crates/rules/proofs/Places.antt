@@ -36,9 +36,9 @@ broken_same p q r = cc
 pub shelf-told : (private : Bool) (S : List ℕ) (r : Broken) → r.rule ≡ shelf_rule private S → r.entry ≡ shelf_entry private S r.rule
     → r.at ≡ shelf_at private S r.rule → r.at ≤ length S → ShelfRule private S r
 unfolding broken_of shelf_broken
-shelf-told private S r first entry-is at-is inside =
+shelf-told private S r first entry_is at_is inside =
     record {
-      whole = broken_same first (entry-is ∙ ap (shelf_entry private S) first) (at-is ∙ ap (shelf_at private S) first);
+      whole = broken_same first (entry_is ∙ ap (shelf_entry private S) first) (at_is ∙ ap (shelf_at private S) first);
       first = first;
       formed = formed-of S private r.rule first;
       inside = inside;
@@ -59,7 +59,7 @@ record_told R r told =
     let first = told.first in
     record {
       whole = wrong_same first (told.table_is ∙ ap (record_table R) first) (told.row_is ∙ ap (record_row R) first)
-          (told.column-is ∙ ap (record_column R) first) (told.at-is ∙ ap (record_at R) first);
+          (told.column_is ∙ ap (record_column R) first) (told.at_is ∙ ap (record_at R) first);
       first = first;
       number = record_number R ∙ ap number_of (sym first);
       known = omega (arith, first, record_most R);
@@ -141,18 +141,18 @@ module _ (R : List ℕ) where
     pub told-entry : ToldOf s n i row col r → 15 ≤ n → i < s.t → row * s.columns + col ≤ s.size → i ≡ record_table R n → row ≡ record_row R n
         → col ≡ record_column R n → Told R n r
     told-entry told l below room p q c =
-        let rule = told.rule-is in
+        let rule = told.rule_is in
         let start = table-start R o shape i below in
-        let place : row * s.columns + col ≡ record_row R n * columns R + record_column R n = cc (q, c, o.columns-is) in
+        let place : row * s.columns + col ≡ record_row R n * columns R + record_column R n = cc (q, c, o.columns_is) in
         let from : offset R i ≡ offset R (record_table R n) = ap (offset R) p in
-        let octet : r.at ≡ record_at R n = omega (arith, told.at-is, start, place, from, at_entry n l) in
+        let octet : r.at ≡ record_at R n = omega (arith, told.at_is, start, place, from, at_entry n l) in
         record {
           first = rule;
           table_is = told.table_is ∙ p ∙ sym (ap (record_table R) rule);
           row_is = told.row_is ∙ q ∙ sym (ap (record_row R) rule);
-          column-is = told.column-is ∙ c ∙ sym (ap (record_column R) rule);
-          at-is = octet ∙ sym (ap (record_at R) rule);
-          inside = omega (arith, told.at-is, table-inside R o shape i below, room);
+          column_is = told.column_is ∙ c ∙ sym (ap (record_column R) rule);
+          at_is = octet ∙ sym (ap (record_at R) rule);
+          inside = omega (arith, told.at_is, table-inside R o shape i below, room);
         }
 
 -- ---- column kb

@@ -16,7 +16,7 @@ use Rattle.profile.specs.Record.{kb, m, x, kind, t, z, offset, rows, columns, ta
 use Rattle.profile.specs.Staircase.{staircases}
 use Rattle.profile.specs.Promises.{judged}
 use Rattle.profile.specs.Steps.Shape.{front_right, size_right, shape_right}
-use Rattle.profile.proofs.Shape.{rows_is, columns-is, area-is, Header, header_is, size-third, shape-third, shape_is, table-long, formed-is}
+use Rattle.profile.proofs.Shape.{rows_is, columns_is, area-is, Header, header_is, size-third, shape-third, shape_is, table-long, formed-is}
 use Rattle.rules.specs.declared.pairs.Sizes.{Sizes}
 use Rattle.rules.specs.Rules.{or_else, first_not, linked, header_rules, pair_rules, form_rules, table_rule, stairs, stair_rule, record_rule, number_of}
 use Rattle.rules.specs.Steps.Sizes.{SizesOf}
@@ -71,13 +71,13 @@ module _ (R : List ℕ) where
   unfolding answered
   header-none h =
       rw (
-        within_of 1 20 (kb R) h.kb-low h.kb-high,
-        within_of 3 12 (m R) h.m-low h.m-high,
-        le-ltb 37 (x R) h.x-high,
-        le-ltb 40 (m R + x R) (omega (arith, h.rows-high, rows_is R)),
-        within_of 1 2 (kind R) h.kind-low h.kind-high,
+        within_of 1 20 (kb R) h.kb_low h.kb_high,
+        within_of 3 12 (m R) h.m_low h.m_high,
+        le-ltb 37 (x R) h.x_high,
+        le-ltb 40 (m R + x R) (omega (arith, h.rows_high, rows_is R)),
+        within_of 1 2 (kind R) h.kind_low h.kind_high,
         type-1 h,
-        within_of 1 3 (t R) h.t-low h.t-high,
+        within_of 1 3 (t R) h.t_low h.t_high,
       )
 
   header-refusals : Refusals heads
@@ -161,7 +161,7 @@ module _ (R : List ℕ) where
   room_of : shape_right R ≡ true → 10 + 4 * t R ≤ length R
   room_of e =
       let s = shape_is R e in
-      let l = s.header.t-low in
+      let l = s.header.t_low in
       omega (arith, s.pair (t R - 1) (omega arith))
 
   formed-none : well_formed R ≡ true → answered (form_rules R) ≡ 0
@@ -170,8 +170,8 @@ module _ (R : List ℕ) where
       let s = shape_is R parts.0 in
       let links : (i : ℕ) → i < t R → linked R i ≡ true = λ i l. is-linked i (s.size i l).chained in
       let rest : answered (pair_rules R) ≡ 0 =
-      pairs-none (room_of parts.0) (all_of (t R) ranges (λ i l. within_of 1 81 (z R i) (s.size i l).z-low (s.size i l).z-high))
-      (all_of (t R) (rises R) (λ i l. (s.size i l).rising)) (links 0 (omega (arith, s.header.t-low))) (all_of (t R) (linked R) links) (ends_of parts.0)
+      pairs-none (room_of parts.0) (all_of (t R) ranges (λ i l. within_of 1 81 (z R i) (s.size i l).z_low (s.size i l).z_high))
+      (all_of (t R) (rises R) (λ i l. (s.size i l).rising)) (links 0 (omega (arith, s.header.t_low))) (all_of (t R) (linked R) links) (ends_of parts.0)
       parts.1 in
       passes 1 (heads ++ pair_rules R) (le-ltb (length R) 10 s.header.long) ∙ last_part heads (pair_rules R) header-refusals (header-none s.header) ∙ rest
     where
@@ -291,23 +291,23 @@ module _ (R : List ℕ) where
     pub small : Small
     small =
         let h = header_is R n.front in
-        let area : rows R * columns R ≤ 40 * 60 = mul-le-mul h.rows-high h.columns-high in
+        let area : rows R * columns R ≤ 40 * 60 = mul-le-mul h.rows_high h.columns_high in
         record {
-          few = omega (arith, n.t-is, h.t-high);
+          few = omega (arith, n.t_is, h.t_high);
           short = omega (arith, n.size_is, area-is R, area);
-          wide = omega (arith, n.columns-is, h.columns-low);
+          wide = omega (arith, n.columns_is, h.columns_low);
         }
 
     module _ (shape : shape_right R ≡ true) (i : ℕ) (l : i < s.t) where
       pub table-start : 10 + 4 * s.t + i * s.size ≡ offset R i
       unfolding offset_due
-      table-start = rw (n.t-is, n.size_is) (sym ((shape_is R shape).size i (omega (arith, n.t-is))).chained)
+      table-start = rw (n.t_is, n.size_is) (sym ((shape_is R shape).size i (omega (arith, n.t_is))).chained)
 
       pub table-inside : 10 + 4 * s.t + i * s.size + s.size ≤ length R
-      table-inside = omega (arith, table-start, n.size_is, (shape_is R shape).inside i (omega (arith, n.t-is)))
+      table-inside = omega (arith, table-start, n.size_is, (shape_is R shape).inside i (omega (arith, n.t_is)))
 
       pub table-length : length (table R i) ≡ s.size
-      table-length = table-long R (shape_is R shape) i (omega (arith, n.t-is)) ∙ sym n.size_is
+      table-length = table-long R (shape_is R shape) i (omega (arith, n.t_is)) ∙ sym n.size_is
 
 -- the walk of a table as the code makes it
 pub over-same : (n : ℕ) {r v w : ℕ} {T U : List ℕ} → v ≡ w → T ≡ U → r ≡ first_not n (λ k. shift_right v (get_or T k 0)) → r ≡ first_not n (λ k. shift_right w (get_or U k 0))

@@ -65,13 +65,13 @@ module _ (T : List ℕ) (kb m x columns : ℕ) where
 
   -- ---- the columns after column kb
 
-  column-is : (i : ℕ) → next_column m (suc i) (column T columns (kb + suc i)) ≡ all_below m (λ row. next_right T kb columns row i)
+  column_is : (i : ℕ) → next_column m (suc i) (column T columns (kb + suc i)) ≡ all_below m (λ row. next_right T kb columns row i)
   unfolding next_column next_right
-  column-is i = refl
+  column_is i = refl
 
   module _ (i row : ℕ) (is : row ≡ first_not m (λ r. next_right T kb columns r i)) where
     pub column-test : leb m row ≡ next_column m (suc i) (column T columns (kb + suc i))
-    column-test = first-test m (λ r. next_right T kb columns r i) is ∙ sym (column-is i)
+    column-test = first-test m (λ r. next_right T kb columns r i) is ∙ sym (column_is i)
 
     pub column-row : next_column m (suc i) (column T columns (kb + suc i)) ≡ false → row < m
     column-row e = leb-false m row (column-test ∙ e)

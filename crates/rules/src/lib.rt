@@ -1,4 +1,5 @@
 // Which rule of document 01 a shelf or a profile record breaks first, and where: numbers and places, to which the desk puts the words.
+#![tactic(auto)]
 mod entries;
 mod pairs;
 pub mod record_rule;
@@ -12,7 +13,7 @@ use shelf::inner::entry;
 
 // The rule that a shelf breaks first, 0 for none; the entry, where one is concerned; and the octet where, both counted from 0.
 #[repr(C)]
-#[derive(Drop)]
+#[derive(Clone, Copy)]
 pub struct Broken {
     pub rule: usize,
     pub entry: usize,
@@ -21,7 +22,7 @@ pub struct Broken {
 
 // The same of a record: the table, the row and the column, where they are concerned, and the octet where.
 #[repr(C)]
-#[derive(Drop)]
+#[derive(Clone, Copy)]
 pub struct Wrong {
     pub rule: usize,
     pub table: usize,

@@ -10,7 +10,7 @@ ghost use Rattle.rules.specs.Steps.Sizes.{SizesOf, PairsOf, RisingOf, Told};
 use crate::{Wrong, record_rule, tables};
 
 // A record's numbers, with the columns and the octets of a table.
-#[derive(Drop)]
+#[derive(Clone, Copy)]
 pub struct Sizes {
     pub kb: usize,
     pub m: usize,

@@ -12,7 +12,7 @@ use crate::record_rule;
 use profile::inner::EMPTY;
 
 // The rule that a table breaks first, 0 for none, and the row and the column where.
-#[derive(Drop)]
+#[derive(Clone, Copy)]
 pub struct Spot {
     pub rule: usize,
     pub row: usize,

@@ -62,9 +62,9 @@ module _ (S : List ℕ) (octets : AreOctets S) (t p : ℕ) (short : p < 65536) w
   other k n = asked_is k ∙ ne_eqb (pair S k) (t * 65536 + p) n
 
   module _ (k : ℕ) (h : Parted S (t * 65536 + p) k k) where
-    pub entry_found : k < count S → pair S k ≡ t * 65536 + p → k ≡ entry_of S t p
+    pub entry-is_found : k < count S → pair S k ≡ t * 65536 + p → k ≡ entry_of S t p
     unfolding entry_of
-    entry_found l e =
+    entry-is_found l e =
         sym
         (first-is (count S) (is_entry S t p) k
         (record {

@@ -60,9 +60,9 @@ module _ {t : ℕ} {S S' : List ℕ} (alike : AlikeFor t S S') (public : List �
 
 -- ---- "A tenant is served from its own private records or the public shelf."
 
-entry-is : (S : List ℕ) (t p k : ℕ) → is_entry S t p k ≡ true → (tenant S k ≡ t) × (profile S k ≡ p)
+entry_is : (S : List ℕ) (t p k : ℕ) → is_entry S t p k ≡ true → (tenant S k ≡ t) × (profile S k ≡ p)
 unfolding is_entry
-entry-is S t p k e =
+entry_is S t p k e =
     let parts = both (eqb (tenant S k) t) (eqb (profile S k) p) e in
     (eqb-true (tenant S k) t parts.0, eqb-true (profile S k) p parts.1)
 
@@ -89,7 +89,7 @@ public-none {private} {t = t} {p = p} h = by_value (has private t p) refl
     by_value false e = refl
     by_value true e =
         let f = found private t p e in
-        let is = entry-is private t p (entry_of private t p) f.holds in
+        let is = entry_is private t p (entry_of private t p) f.holds in
         absurd (h.none (entry_of private t p) f.below is.0 is.1)
 
 some-has : (private public : List ℕ) (t p : ℕ) → lookup_number private public t p ≡ 0 → (has private t p || has public 0 p) ≡ true
@@ -108,7 +108,7 @@ served private public t p z = by_value (has private t p) refl
     by_value : (b : Bool) → has private t p ≡ b → Own private t p (lookup_record private public t p) ⊎ Public private public t p (lookup_record private public t p)
     by_value true e =
         let f = found private t p e in
-        let is = entry-is private t p (entry_of private t p) f.holds in
+        let is = entry_is private t p (entry_of private t p) f.holds in
         inl (record {
           entry = entry_of private t p;
           below = f.below;
@@ -119,7 +119,7 @@ served private public t p z = by_value (has private t p) refl
     by_value false e =
         let here : has public 0 p ≡ true = rw e at (some-has private public t p z) in
         let f = found public 0 p here in
-        let is = entry-is public 0 p (entry_of public 0 p) f.holds in
+        let is = entry_is public 0 p (entry_of public 0 p) f.holds in
         inr (record {
           none = no-entry private t p e;
           entry = entry_of public 0 p;

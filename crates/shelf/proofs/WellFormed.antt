@@ -186,14 +186,14 @@ module _ (S : List ℕ) where
         room = leb-true (2 + 8 * count S) (length S) three.1;
       }
 
-  pub entry-is : (k : ℕ) → entry_right S k ≡ true → (rises S k ≡ true) × (offset S k ≡ offset_due S k)
+  pub entry_is : (k : ℕ) → entry_right S k ≡ true → (rises S k ≡ true) × (offset S k ≡ offset_due S k)
   unfolding entry_right
-  entry-is k e =
+  entry_is k e =
       let parts = both (rises S k) (chained S k) e in
       (parts.0, chain-is k parts.1)
 
   passed : all_below (count S) (entry_right S) ≡ true → (k : ℕ) → k < count S → (rises S k ≡ true) × (offset S k ≡ offset_due S k)
-  passed e k l = entry-is k (all-at (count S) (entry_right S) e k l)
+  passed e k l = entry_is k (all-at (count S) (entry_right S) e k l)
 
   walked-formed : (private : Bool) → walk_right private S ≡ true → Formed private
   unfolding walk_right entries_right ends_right

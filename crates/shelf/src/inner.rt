@@ -10,7 +10,7 @@ use bits::number::{PRIVATE_SHELF, PUBLIC_SHELF, TENANT_ZERO};
 
 // What a lookup comes to: its number, and where the octets lie, in the private shelf where `own`, else in the public one. A place and not a
 // reference, so that one lookup serves the number, the stretch and the hosted calls.
-#[derive(Drop)]
+#[derive(Clone, Copy)]
 pub struct Found {
     pub number: u32,
     pub own: bool,

@@ -20,9 +20,9 @@ use Rattle.advice.proofs.least_cut.Statement.{statement}
 use Rattle.advice.proofs.least_cut.Tie as tie
 
 -- the counts as the code answers them
-most-is : (terms : Terms) (r : SymbolPlaces) → r ≡ symbol_places_of terms (record { 0 = 65536 }) → r.0 ≡ 65536 / place_bits terms
+most_is : (terms : Terms) (r : SymbolPlaces) → r ≡ symbol_places_of terms (record { 0 = 65536 }) → r.0 ≡ 65536 / place_bits terms
 unfolding symbol_places_of
-most-is terms r e = ap (λ (x : SymbolPlaces). x.0) e
+most_is terms r e = ap (λ (x : SymbolPlaces). x.0) e
 
 bits_is : (terms : Terms) (n : SymbolPlaces) (r : CodedBits) → r ≡ coded_bits_of terms n → r.0 ≡ place_bits terms * n.0
 unfolding coded_bits_of
@@ -54,7 +54,7 @@ module _ (c : tie.After-places-for-all) where
 fits : (c : tie.Else1) → c.before.before.before.before.places-for-all.result.0 ≤ 65536 / place_bits (st c.before.before.before.before).args.terms
 fits c =
     let after = c.before.before.before.before in
-    omega (arith, most-is (st after).args.terms _ c.before.before.before.symbol-places.ensures, c.if1.false)
+    omega (arith, most_is (st after).args.terms _ c.before.before.before.symbol-places.ensures, c.if1.false)
 
 -- the allocation that they make
 module _ (c : tie.After-coded-bits) where
@@ -99,7 +99,7 @@ returns : tie.Need-returns
 returns c =
     let then = c.before in
     let after = then.before.before.before.before in
-    let most = most-is (st after).args.terms _ then.before.before.before.symbol-places.ensures in
+    let most = most_is (st after).args.terms _ then.before.before.before.symbol-places.ensures in
     last-refused (R after) (st after).args.octets (st after).args.terms (st after).requires (omega (arith, all after, most, then.if1.true)) _ c.refused.ensures
 
 coded-bits-requires : tie.Need-coded-bits-requires

@@ -42,7 +42,7 @@ cut_coded R p bits start own = coded_by R p (cut_places p bits start own)
 pub record Codable (R : List ℕ) (p : Plan) (bits : List ℕ) (start own : ℕ) (word : List ℕ) : Type 0 where
   pub edition : ℕ
   pub ready : Ready R edition bits p
-  pub carried-fits : own + p.sums ≤ p.places
+  pub carried_fits : own + p.sums ≤ p.places
   pub inside : start + own ≤ length bits
   pub fits : Fits R p word
 
@@ -51,7 +51,7 @@ pub record Codable (R : List ℕ) (p : Plan) (bits : List ℕ) (start own : ℕ)
 -- it has so many carried bits
 pub record Stretch (R : List ℕ) (p : Plan) (s : List ℕ) (carried from : ℕ) (word : List ℕ) : Type 0 where
   pub some : SomePlan R p
-  pub carried-fits : carried ≤ p.places
+  pub carried_fits : carried ≤ p.places
   pub starts : from ≤ length word
   pub fits : Fits R p word
   pub room : carried + (length word - p.places) ≤ length s

@@ -14,11 +14,11 @@ use Rattle.cutting.specs.declared.Plan.{Plan}
 -- R is accepted, and B bits, no more than those of the longest block, have room in `count` blocks; `most` is Kmax and `sums` is L
 pub record Counted (R : List ℕ) (bits most sums count : ℕ) : Type 0 where
   pub accepted : judged R ≡ 0
-  pub bits-high : bits ≤ 16408
-  pub most-is : most ≡ kmax R
-  pub most-few : most ≤ 1620
+  pub bits_high : bits ≤ 16408
+  pub most_is : most ≡ kmax R
+  pub most_few : most ≤ 1620
   pub count_low : 0 < count
-  pub count-high : count ≤ 64
+  pub count_high : count ≤ 64
   pub fits : ceil bits count + sums ≤ most
 
 -- the plan by these numbers

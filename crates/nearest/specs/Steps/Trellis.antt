@@ -79,8 +79,8 @@ beats v w v' w' = ltb v' v || (eqb v' v && ltb (value_of w') (value_of w))
 pub record Best (f : ℕ → ℕ → ℕ) (D : ℕ) (left : List ℕ) (v : ℕ) (w : List ℕ) : Type 0 where
   pub goal : ℕ
   pub inside : goal < 64
-  pub cost-is : v ≡ goal_cost f D goal
-  pub word-is : w ≡ goal_word f D goal
+  pub cost_is : v ≡ goal_cost f D goal
+  pub word_is : w ≡ goal_word f D goal
   pub len : length left ≡ 64
   pub others : (s : ℕ) → s < 64 → get_or left s 0 < 65535 → (get_or left s 0 % 64 ≡ s) × (get_or left s 0 / 64 ≤ goal_cost f D s)
   pub fewest : (s : ℕ) → s < 64 → 65535 ≤ get_or left s 0 → v ≤ goal_cost f D s

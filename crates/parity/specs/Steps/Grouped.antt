@@ -52,11 +52,11 @@ pub record Begun (T : List ℕ) (kb m columns z : ℕ) (sys : List ℕ) (k : ℕ
 pub record Shape (T : List ℕ) (rows columns z : ℕ) : Type 0 where
   pub size : length T ≡ rows * columns
   pub shifts : (k : ℕ) → (get_or T k 0 ≡ empty → ⊥) → get_or T k 0 < z
-  pub z-some : 0 < z
-  pub z-most : z ≤ 81
-  pub rows-some : 0 < rows
-  pub rows-most : rows ≤ 40
-  pub columns-most : columns ≤ 60
+  pub z_some : 0 < z
+  pub z_most : z ≤ 81
+  pub rows_some : 0 < rows
+  pub rows_most : rows ≤ 40
+  pub columns_most : columns ≤ 60
 
 -- and what coding asks: of its rows m are the staircase's, there is a column past kb for each row, and the word w is as long as the columns say
 pub record Codable (T : List ℕ) (kb m rows columns z : ℕ) (w : List ℕ) : Type 0 where

@@ -74,9 +74,9 @@ pub record Groups (z n : ℕ) (f : ℕ → ℕ → ℕ) (a : List ℕ) (at : ℕ
 pub record Stacked (s : List ℕ) (m z : ℕ) : Type 0 where
   pub size : m * lanes ≤ length s
   pub bits : AreBits s
-  pub m-some : 0 < m
-  pub m-most : m ≤ 40
-  pub z-most : z ≤ 81
+  pub m_some : 0 < m
+  pub m_most : m ≤ 40
+  pub z_most : z ≤ 81
 
 -- g holds the sums of the rows 0 .. r − 1 of s, lane by lane
 pub record Together (s : List ℕ) (r : ℕ) (g : List ℕ) : Type 0 where

@@ -27,18 +27,18 @@ shape_right R = front_right R && ends_right R && all_below (t R) (size_right R)
 pub record Sized (T : List ℕ) (kb' m' columns' : ℕ) : Type 0 where
   pub size : m' * columns' ≤ length T
   pub wide : kb' + m' ≤ columns'
-  pub columns-high : columns' ≤ 60
-  pub m-low : 3 ≤ m'
-  pub m-high : m' ≤ 12
+  pub columns_high : columns' ≤ 60
+  pub m_low : 3 ≤ m'
+  pub m_high : m' ≤ 12
 
 -- a whole table: m rows of the staircase and x of the extension
 pub record Whole (T : List ℕ) (kb' m' x' columns' : ℕ) : Type 0 where
   pub size : length T ≡ (m' + x') * columns'
   pub columns_are : columns' ≡ kb' + (m' + x')
-  pub kb-high : kb' ≤ 20
-  pub m-low : 3 ≤ m'
-  pub m-high : m' ≤ 12
-  pub rows-high : m' + x' ≤ 40
+  pub kb_high : kb' ≤ 20
+  pub m_low : 3 ≤ m'
+  pub m_high : m' ≤ 12
+  pub rows_high : m' + x' ≤ 40
 
 -- T is table i of the record, and so a whole one
 pub record TableAt (R : List ℕ) (i : ℕ) (T : List ℕ) : Type 0 where

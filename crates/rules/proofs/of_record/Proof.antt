@@ -14,7 +14,7 @@ unfolding place_of table_row table_column record_table record_row record_column 
 returns c =
     let R = c.before.before.args.octets.now in
     record_told R (record { rule = 1; table = 0; row = 0; column = 0; at = length R })
-    (record { first = no_header R c.if1.true; table_is = refl; row_is = refl; column-is = refl; at-is = refl; inside = omega arith })
+    (record { first = no_header R c.if1.true; table_is = refl; row_is = refl; column_is = refl; at_is = refl; inside = omega arith })
 
 of-header-requires : tie.Need-of-header-requires
 of-header-requires c κs = search rules

@@ -58,7 +58,7 @@ returns-4 c =
     let told = c.of-entries.ensures in
     let first : r.rule ≡ shelf_rule a.private S =
     rw (le-ltb (length S) 2 (omega arith), le-ltb 64 (count S) (omega arith), le-ltb (length S) (2 + 8 * count S) (omega arith)) told.first in
-    shelf-told a.private S r first told.entry-is told.at-is told.inside
+    shelf-told a.private S r first told.entry_is told.at_is told.inside
 
 pub of-shelf-spec : {M : Type 1} → statement M
 of-shelf-spec =

@@ -12,11 +12,11 @@ use Rattle.rules.specs.Places.{table_row, table_column, record_table, record_row
 -- s are the numbers of a record whose header is right; the pairs stand in it; its tables can be read
 pub record SizesOf (R : List ℕ) (s : Sizes) : Type 0 where
   pub front : front_right R ≡ true
-  pub kb-is : s.kb ≡ kb R
-  pub m-is : s.m ≡ m R
-  pub x-is : s.x ≡ x R
-  pub t-is : s.t ≡ t R
-  pub columns-is : s.columns ≡ columns R
+  pub kb_is : s.kb ≡ kb R
+  pub m_is : s.m ≡ m R
+  pub x_is : s.x ≡ x R
+  pub t_is : s.t ≡ t R
+  pub columns_is : s.columns ≡ columns R
   pub size_is : s.size ≡ table_size R
 
 pub record PairsOf (R : List ℕ) (s : Sizes) : Type 0 where
@@ -42,15 +42,15 @@ pub record Told (R : List ℕ) (n : ℕ) (r : Wrong) : Type 0 where
   pub first : r.rule ≡ n
   pub table_is : r.table ≡ record_table R r.rule
   pub row_is : r.row ≡ record_row R r.rule
-  pub column-is : r.column ≡ record_column R r.rule
-  pub at-is : r.at ≡ record_at R r.rule
+  pub column_is : r.column ≡ record_column R r.rule
+  pub at_is : r.at ≡ record_at R r.rule
   pub inside : r.at ≤ length R
 
 -- and of a table
 pub record Spotted (T : List ℕ) (kb' m' x' columns' n : ℕ) (r : Spot) : Type 0 where
   pub first : r.rule ≡ n
   pub row_is : r.row ≡ table_row T kb' m' x' columns' r.rule
-  pub column-is : r.column ≡ table_column T kb' m' x' columns' r.rule
+  pub column_is : r.column ≡ table_column T kb' m' x' columns' r.rule
   pub inside : r.row * columns' + r.column < length T
 
 -- what is told of an entry of table i is what is known of it, and its octet
@@ -58,5 +58,5 @@ pub record ToldOf (s : Sizes) (rule i row column : ℕ) (r : Wrong) : Type 0 whe
   pub rule_is : r.rule ≡ rule
   pub table_is : r.table ≡ i
   pub row_is : r.row ≡ row
-  pub column-is : r.column ≡ column
-  pub at-is : r.at ≡ 10 + 4 * s.t + i * s.size + (row * s.columns + column)
+  pub column_is : r.column ≡ column
+  pub at_is : r.at ≡ 10 + 4 * s.t + i * s.size + (row * s.columns + column)

@@ -15,12 +15,12 @@ pub record Counted (S : List ℕ) (n : ℕ) : Type 0 where
 -- the first broken rule of those behind the count's, and of the last three, and where it is broken
 pub record EntryRule (private : Bool) (S : List ℕ) (r : Broken) : Type 0 where
   pub first : r.rule ≡ answered (entry_rules private S)
-  pub entry-is : r.entry ≡ shelf_entry private S r.rule
-  pub at-is : r.at ≡ shelf_at private S r.rule
+  pub entry_is : r.entry ≡ shelf_entry private S r.rule
+  pub at_is : r.at ≡ shelf_at private S r.rule
   pub inside : r.at ≤ length S
 
 pub record EndRule (private : Bool) (S : List ℕ) (r : Broken) : Type 0 where
   pub first : r.rule ≡ answered (end_rules private S)
-  pub entry-is : r.entry ≡ shelf_entry private S r.rule
-  pub at-is : r.at ≡ shelf_at private S r.rule
+  pub entry_is : r.entry ≡ shelf_entry private S r.rule
+  pub at_is : r.at ≡ shelf_at private S r.rule
   pub inside : r.at ≤ length S

@@ -14,7 +14,7 @@ own-bits-requires c κs =
     let a = st.args in
     let R = a.profile.now in
     let k = some-fields R a.plan st.requires in
-    (k.cut.bits-high, omega (arith, k.blocks_is, k.cut.some), omega (arith, k.blocks_is, k.cut.most))
+    (k.cut.bits_high, omega (arith, k.blocks_is, k.cut.some), omega (arith, k.blocks_is, k.cut.most))
 
 size-requires : tie.Need-size-requires
 size-requires c κs = search rules

@@ -39,7 +39,7 @@ own-bits-requires c κs = let l = c in
     let given = given_here R a.terms s a.plan h in
     let i = l.before.loop in
     let order : i.r < a.plan.blocks = omega (arith, l) in
-    (k.cut.bits-high, omega (arith, order), omega (arith, k.blocks_is, k.cut.most))
+    (k.cut.bits_high, omega (arith, order), omega (arith, k.blocks_is, k.cut.most))
 
 share-of-requires : tie.Need-share-of-requires invariant-loop decreases-loop
 share-of-requires c κs = let st = c.before.before.before.before.before.before.before in
@@ -105,7 +105,7 @@ is-received-requires c κs = let l = c.before.before.before.before.before in
     let size : length (take (i.at + e.result.0 - i.at) (drop i.at s)) ≡ e.result.0 = rw whole (length_part e.result.0 i.at s fits) in
     record {
       some = record { edition = a.terms.edition; of = record { octets = h.octets; taken = h.receivable.taken; plan = h.plan } };
-      carried-fits = carried-room R a.plan k i.r own.result own.ensures;
+      carried_fits = carried-room R a.plan k i.r own.result own.ensures;
       starts = omega (arith, start_in R a.plan a.terms k (versioned _ _ h.receivable.version) a.from st.requires.1, i.invariant.1, st.requires.2);
       fits = i.invariant.1 ∙ st.requires.2;
       room = omega (arith, size, i.invariant.1, st.requires.2, room_here R a.terms s a.plan h i.r own.result e.result.0 order own.ensures mine);
@@ -177,7 +177,7 @@ add_start c = let l = c.before.before.before.before.before.before.before.before.
     let e = c.before.before.before.before.before.before.before.before.before.before.before.before.share-of in
     let mine = share-is R a.plan a.terms k (length s) i.r e.result.0 (ap (λ (x : CodedBits). x.0) e.ensures) in
     let fits = share-fits R a.plan a.terms k (length s) given i.r i.at e.result.0 order i.invariant.2.stands mine in
-    omega (arith, own-fits R a.plan k i.r i.start own.result order i.invariant.2.starts own.ensures, k.cut.bits-high)
+    omega (arith, own-fits R a.plan k i.r i.start own.result order i.invariant.2.starts own.ensures, k.cut.bits_high)
 
 add_at : tie.Need-overflow-add-at invariant-loop decreases-loop
 add_at c = let l = c.before.before.before.before.before.before.before.before.before.before.before.before.before.before.before in

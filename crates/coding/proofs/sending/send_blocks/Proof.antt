@@ -52,7 +52,7 @@ own-bits-requires c κs =
     let s = a.bits.now in
     let k = of_fields R a.terms.edition a.plan st.requires.0.ready.of in
     let i = l.before.loop in
-    (k.cut.bits-high, omega (arith, k.blocks_is, k.cut.some), omega (arith, k.blocks_is, k.cut.most))
+    (k.cut.bits_high, omega (arith, k.blocks_is, k.cut.some), omega (arith, k.blocks_is, k.cut.most))
 
 share-of-requires : tie.Need-share-of-requires invariant-loop decreases-loop
 share-of-requires c κs = c.before.before.before.before.before.before.before.requires.0.allocated
@@ -83,7 +83,7 @@ send-block-requires c κs =
       record {
         edition = a.terms.edition;
         ready = st.requires.0.ready;
-        carried-fits = carried-room R a.plan k i.r own.result own.ensures;
+        carried_fits = carried-room R a.plan k i.r own.result own.ensures;
         inside = omega (arith, own-fits R a.plan k i.r i.start own.result order i.invariant.1 own.ensures, st.requires.0.ready.size);
         fits = i.invariant.2 ∙ st.requires.2;
       },
@@ -105,7 +105,7 @@ add_start c =
     let order : i.r < a.plan.blocks = omega (arith, l) in
     let mine = share-is R a.plan a.terms k a.g.0 i.r e.result.0 (ap (λ (x : CodedBits). x.0) e.ensures) in
     let fits = own-fits R a.plan k i.r i.start own.result order i.invariant.1 own.ensures in
-    omega (arith, fits, k.cut.bits-high)
+    omega (arith, fits, k.cut.bits_high)
 
 add_at : tie.Need-overflow-add-at invariant-loop decreases-loop
 add_at c =
@@ -122,7 +122,7 @@ add_at c =
     let mine = share-is R a.plan a.terms k a.g.0 i.r e.result.0 (ap (λ (x : CodedBits). x.0) e.ensures) in
     let room = share-fits R a.plan a.terms k a.g.0 st.requires.0.allocated i.r i.at e.result.0 order i.invariant.3 mine in
     let fits = own-fits R a.plan k i.r i.start own.result order i.invariant.1 own.ensures in
-    omega (arith, room, fits, k.cut.bits-high, st.requires.0.allocated.most)
+    omega (arith, room, fits, k.cut.bits_high, st.requires.0.allocated.most)
 
 add_r : tie.Need-overflow-add-r invariant-loop decreases-loop
 add_r c = omega (arith, c.before.before.before.before.before.before.before.before.before.before)

@@ -20,13 +20,13 @@ fields c = of_fields c.args.profile.now c.args.asked.terms.edition c.args.plan (
 own-bits-requires : tie.Need-own-bits-requires
 own-bits-requires c κs =
     let k = fields c.before in
-    (k.cut.bits-high, omega (arith, k.blocks_is, k.cut.some), omega (arith, k.blocks_is, k.cut.most))
+    (k.cut.bits_high, omega (arith, k.blocks_is, k.cut.some), omega (arith, k.blocks_is, k.cut.most))
 
 add-carried : tie.Need-overflow-add-carried
 add-carried c =
     let st = c.before.before.before in
     let k = fields st in
-    omega (arith, carried-room st.args.profile.now st.args.plan k st.args.r _ c.before.own_bits.ensures, k.places_is, k.cut.places-high)
+    omega (arith, carried-room st.args.profile.now st.args.plan k st.args.r _ c.before.own_bits.ensures, k.places_is, k.cut.places_high)
 
 sub-filler : tie.Need-overflow-sub-filler
 sub-filler c =

@@ -13,7 +13,7 @@ use Rattle.keeping.proofs.change.putting.Statement.{statement}
 use Rattle.keeping.proofs.change.putting.Tie as tie
 
 formed : (c : tie.Else2) → private_shelf c.before.before.before.before.before.args.private.now ≡ true
-formed c = sym c.before.well-formed-2.ensures ∙ not-false _ c.if2.false
+formed c = sym c.before.well_formed-2.ensures ∙ not-false _ c.if2.false
 
 refused-requires : tie.Need-refused-requires
 refused-requires c κs = search rules
@@ -39,7 +39,7 @@ returns-2 c =
     let a = w.before.before.before.before.before.args in
     let S = a.private.now in
     let R = a.octets.now in
-    let wrong : private_shelf S ≡ false = sym w.before.well-formed-2.ensures ∙ not-true _ w.if2.true in
+    let wrong : private_shelf S ≡ false = sym w.before.well_formed-2.ensures ∙ not-true _ w.if2.true in
     let n = put-unformed S a.tenant a.profile R a.lent w.before.before.if1.false wrong in
     refused_changes S a.tenant a.profile (entries_put S a.tenant a.profile R) a.lent (put_number S a.tenant a.profile R a.lent) c.refused2.result
     (c.refused2.ensures ∙ sym n) (λ z. omega (arith, n, z))

@@ -16,7 +16,7 @@ use Rattle.keeping.proofs.change.removing.Statement.{statement}
 use Rattle.keeping.proofs.change.removing.Tie as tie
 
 formed : (c : tie.Else2) → private_shelf c.before.before.before.before.args.private.now ≡ true
-formed c = sym c.before.well-formed-2.ensures ∙ not-false _ c.if2.false
+formed c = sym c.before.well_formed-2.ensures ∙ not-false _ c.if2.false
 
 refused-requires : tie.Need-refused-requires
 refused-requires c κs = search rules
@@ -40,7 +40,7 @@ returns-2 c =
     let w = c.before in
     let a = w.before.before.before.before.args in
     let S = a.private.now in
-    let wrong : private_shelf S ≡ false = sym w.before.well-formed-2.ensures ∙ not-true _ w.if2.true in
+    let wrong : private_shelf S ≡ false = sym w.before.well_formed-2.ensures ∙ not-true _ w.if2.true in
     let n = remove-unformed S a.tenant a.profile a.lent w.before.before.if1.false wrong in
     refused_changes S a.tenant a.profile (entries_left S a.tenant a.profile) a.lent (remove_number S a.tenant a.profile a.lent) c.refused2.result
     (c.refused2.ensures ∙ sym n) (λ z. omega (arith, n, z))

@@ -29,7 +29,7 @@ returns c =
     let S = s.args.octets.now in
     let wrong : ends_right S ≡ false = ends_wrong S (λ e. c.before.if1.true (cc e)) in
     let at : c.smaller.result ≡ smaller (length S) (offset_due S (count S)) = cc (c.smaller.ensures.0, c.before.before.due.ensures.0, s.requires.same) in
-    record { first = rw wrong; entry-is = refl; at-is = at; inside = omega (arith, c.smaller.ensures.1) }
+    record { first = rw wrong; entry_is = refl; at_is = at; inside = omega (arith, c.smaller.ensures.1) }
 
 returns-2 : tie.Need-returns-2
 unfolding answered place_of shelf_entry shelf_at
@@ -37,7 +37,7 @@ returns-2 c =
     let s = c.before.before.before.before in
     let S = s.args.octets.now in
     let right : ends_right S ≡ true = ends-right S (cc c.before.if1.false) in
-    record { first = rw (right, lt-ltb 65535 (length S) c.if2.true); entry-is = refl; at-is = refl; inside = omega arith }
+    record { first = rw (right, lt-ltb 65535 (length S) c.if2.true); entry_is = refl; at_is = refl; inside = omega arith }
 
 first-stranger-requires : tie.Need-first-stranger-requires
 first-stranger-requires c κs = search rules
@@ -59,8 +59,8 @@ returns-3 c =
     let is : c.before.first-stranger.result ≡ first_not (count S) owned = rw (← s.requires.same) c.before.first-stranger.ensures in
     record {
       first = rw (right, le-ltb 65535 (length S) (omega arith), some);
-      entry-is = is;
-      at-is = omega (arith, is);
+      entry_is = is;
+      at_is = omega (arith, is);
       inside = omega (arith, s.requires.room);
     }
 
@@ -72,7 +72,7 @@ returns-4 c =
     let right : ends_right S ≡ true = ends-right S (cc c.before.before.before.if1.false) in
     let owned : ℕ → Bool = λ k. tenant_right s.args.private (tenant S k) in
     let none : all_below (count S) owned ≡ true = rw (← s.requires.same) (first-all s.args.count owned c.before.first-stranger.ensures (omega arith)) in
-    record { first = rw (right, le-ltb 65535 (length S) (omega arith), none); entry-is = refl; at-is = refl; inside = omega arith }
+    record { first = rw (right, le-ltb 65535 (length S) (omega arith), none); entry_is = refl; at_is = refl; inside = omega arith }
 
 pub of-end-spec : {M : Type 1} → statement M
 of-end-spec =

@@ -31,7 +31,7 @@ returns c =
     let some : all_below (count S) (rises S) ≡ false =
     rw (← s.requires.same) (first-some-not s.args.count (rises S) c.before.first-fall.ensures c.if1.true) in
     let at : c.before.first-fall.result ≡ first_not (count S) (rises S) = rw (← s.requires.same) c.before.first-fall.ensures in
-    record { first = rw some; entry-is = at; at-is = omega (arith, at); inside = omega (arith, s.requires.room) }
+    record { first = rw some; entry_is = at; at_is = omega (arith, at); inside = omega (arith, s.requires.room) }
 
 first-loose-requires : tie.Need-first-loose-requires
 first-loose-requires c κs = search rules
@@ -46,7 +46,7 @@ returns-2 c =
     let first : chained S 0 ≡ false =
     ap (chained S) (sym c.if3.true) ∙ first-fails s.args.count (chained S) c.before.before.first-loose.ensures c.before.if2.true in
     let some : ltb 0 (count S) ≡ true = lt-ltb 0 (count S) (omega (arith, s.requires.same)) in
-    record { first = rw (up, some, first); entry-is = refl; at-is = refl; inside = omega (arith, s.requires.room) }
+    record { first = rw (up, some, first); entry_is = refl; at_is = refl; inside = omega (arith, s.requires.room) }
 
 mul-t10 : tie.Need-overflow-mul-t10
 mul-t10 c = search rules
@@ -66,7 +66,7 @@ returns-3 c =
     let some : ltb 0 (count S) ≡ true = lt-ltb 0 (count S) (omega (arith, s.requires.same)) in
     let loose : all_below (count S) (chained S) ≡ false = rw (← s.requires.same) (first-some-not s.args.count (chained S) is c.before.if2.true) in
     let at : c.before.before.first-loose.result ≡ first_not (count S) (chained S) = rw (← s.requires.same) is in
-    record { first = rw (up, some, first, loose); entry-is = at; at-is = omega (arith, at); inside = omega (arith, s.requires.room) }
+    record { first = rw (up, some, first, loose); entry_is = at; at_is = omega (arith, at); inside = omega (arith, s.requires.room) }
 
 of-end-requires : tie.Need-of-end-requires
 of-end-requires c κs = search rules
@@ -83,8 +83,8 @@ returns-4 c =
     let told = c.of-end.ensures in
     record {
       first = rw (up, all_first (count S) (chained S) linked, linked) told.first;
-      entry-is = told.entry-is;
-      at-is = told.at-is;
+      entry_is = told.entry_is;
+      at_is = told.at_is;
       inside = told.inside;
     }
 

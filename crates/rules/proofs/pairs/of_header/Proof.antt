@@ -50,8 +50,8 @@ returns c =
       first = header-first R u.requires rule is c.before.if1.true;
       table_is = none.0;
       row_is = none.1;
-      column-is = none.2;
-      at-is = c.header_at.ensures.0 R;
+      column_is = none.2;
+      at_is = c.header_at.ensures.0 R;
       inside = omega (arith, c.header_at.ensures.1, u.requires);
     }
 
@@ -63,7 +63,7 @@ sizes-of-requires c κs =
     let R = a.octets.now in
     let none : answered (header_rules (kb R) (m R) (x R) (kind R) (t R)) ≡ 0 = cc in
     let h = header_is R (front-passed R u.requires none) in
-    (omega (arith, h.kb-high), omega (arith, h.rows-high, rows_is R))
+    (omega (arith, h.kb_high), omega (arith, h.rows_high, rows_is R))
 
 of-zs-requires : tie.Need-of-zs-requires
 unfolding kb m x kind t
@@ -73,18 +73,18 @@ of-zs-requires c κs =
     let R = a.octets.now in
     let none : answered (header_rules (kb R) (m R) (x R) (kind R) (t R)) ≡ 0 = cc in
     let n = c.sizes-of.ensures in
-    let kb-is = c.before.before.before.before.before.before.before.number_at.ensures.0 in
-    let m-is = c.before.before.before.before.before.before.number-at2.ensures.0 in
-    let x-is = c.before.before.before.before.before.number-at3.ensures.0 in
-    let t-is = c.before.before.before.number-at5.ensures.0 in
+    let kb_is = c.before.before.before.before.before.before.before.number_at.ensures.0 in
+    let m_is = c.before.before.before.before.before.before.number-at2.ensures.0 in
+    let x_is = c.before.before.before.before.before.number-at3.ensures.0 in
+    let t_is = c.before.before.before.number-at5.ensures.0 in
     record {
       front = front-passed R u.requires none;
-      kb-is = n.0 ∙ kb-is;
-      m-is = n.1 ∙ m-is;
-      x-is = n.2 ∙ x-is;
-      t-is = n.3 ∙ t-is;
-      columns-is = n.4 ∙ columns_of R kb-is m-is x-is;
-      size_is = n.5 ∙ size_of R kb-is m-is x-is;
+      kb_is = n.0 ∙ kb_is;
+      m_is = n.1 ∙ m_is;
+      x_is = n.2 ∙ x_is;
+      t_is = n.3 ∙ t_is;
+      columns_is = n.4 ∙ columns_of R kb_is m_is x_is;
+      size_is = n.5 ∙ size_of R kb_is m_is x_is;
     }
 
 returns-2 : tie.Need-returns-2
@@ -99,8 +99,8 @@ returns-2 c =
       first = told.first ∙ header-last R u.requires none;
       table_is = told.table_is;
       row_is = told.row_is;
-      column-is = told.column-is;
-      at-is = told.at-is;
+      column_is = told.column_is;
+      at_is = told.at_is;
       inside = told.inside;
     }
 

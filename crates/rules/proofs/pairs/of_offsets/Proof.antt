@@ -29,8 +29,8 @@ returns c =
       first = rw first;
       table_is = refl;
       row_is = refl;
-      column-is = refl;
-      at-is = refl;
+      column_is = refl;
+      at_is = refl;
       inside = omega (arith, u.requires.pairs.room, c.before.if1.true);
     }
 
@@ -49,14 +49,14 @@ returns-2 c =
     let n = u.requires.pairs.sizes in
     let loose = c.before.before.first-loose in
     let first : linked R 0 ≡ true = first-before a.s.t (linked R) loose.ensures 0 (omega arith) (omega arith) in
-    let some : all_below (t R) (linked R) ≡ false = rw (← n.t-is) (first-some-not a.s.t (linked R) loose.ensures c.before.if1.true) in
-    let is : loose.result ≡ first_not (t R) (linked R) = rw (← n.t-is) loose.ensures in
+    let some : all_below (t R) (linked R) ≡ false = rw (← n.t_is) (first-some-not a.s.t (linked R) loose.ensures c.before.if1.true) in
+    let is : loose.result ≡ first_not (t R) (linked R) = rw (← n.t_is) loose.ensures in
     record {
       first = rw (first, some);
       table_is = is;
       row_is = refl;
-      column-is = refl;
-      at-is = omega (arith, is);
+      column_is = refl;
+      at_is = omega (arith, is);
       inside = omega (arith, u.requires.pairs.room, c.before.if1.true);
     }
 
@@ -67,7 +67,7 @@ of-end-requires c κs =
     let R = a.octets.now in
     record {
       zs = u.requires;
-      links = rw (← u.requires.pairs.sizes.t-is) (first-all a.s.t (linked R) c.before.first-loose.ensures (omega arith));
+      links = rw (← u.requires.pairs.sizes.t_is) (first-all a.s.t (linked R) c.before.first-loose.ensures (omega arith));
     }
 
 returns-3 : tie.Need-returns-3
@@ -77,15 +77,15 @@ returns-3 c =
     let a = u.args in
     let R = a.octets.now in
     let n = u.requires.pairs.sizes in
-    let all : all_below (t R) (linked R) ≡ true = rw (← n.t-is) (first-all a.s.t (linked R) c.before.before.first-loose.ensures (omega arith)) in
-    let first : linked R 0 ≡ true = all-at (t R) (linked R) all 0 (omega (arith, (header_is R n.front).t-low)) in
+    let all : all_below (t R) (linked R) ≡ true = rw (← n.t_is) (first-all a.s.t (linked R) c.before.before.first-loose.ensures (omega arith)) in
+    let first : linked R 0 ≡ true = all-at (t R) (linked R) all 0 (omega (arith, (header_is R n.front).t_low)) in
     let told = c.of-end.ensures in
     record {
       first = rw (first, all) told.first;
       table_is = told.table_is;
       row_is = told.row_is;
-      column-is = told.column-is;
-      at-is = told.at-is;
+      column_is = told.column_is;
+      at_is = told.at_is;
       inside = told.inside;
     }
 

@@ -37,11 +37,11 @@ returns c =
     let a = u.args in
     let R = a.octets.now in
     record {
-      first = rw (lt-ltb (length R) (10 + 4 * t R) (omega (arith, u.requires.t-is)));
+      first = rw (lt-ltb (length R) (10 + 4 * t R) (omega (arith, u.requires.t_is)));
       table_is = refl;
       row_is = refl;
-      column-is = refl;
-      at-is = refl;
+      column_is = refl;
+      at_is = refl;
       inside = omega arith;
     }
 
@@ -61,16 +61,16 @@ returns-2 c =
     let a = u.args in
     let R = a.octets.now in
     let n = u.requires in
-    let room = le-ltb (length R) (10 + 4 * t R) (omega (arith, n.t-is)) in
+    let room = le-ltb (length R) (10 + 4 * t R) (omega (arith, n.t_is)) in
     let ranges : ℕ → Bool = λ i. within 1 81 (z R i) in
-    let some : all_below (t R) ranges ≡ false = rw (← n.t-is) (first-some-not a.s.t ranges c.before.first_out.ensures c.if2.true) in
-    let is : c.before.first_out.result ≡ first_not (t R) ranges = rw (← n.t-is) c.before.first_out.ensures in
+    let some : all_below (t R) ranges ≡ false = rw (← n.t_is) (first-some-not a.s.t ranges c.before.first_out.ensures c.if2.true) in
+    let is : c.before.first_out.result ≡ first_not (t R) ranges = rw (← n.t_is) c.before.first_out.ensures in
     record {
       first = rw (room, some);
       table_is = is;
       row_is = refl;
-      column-is = refl;
-      at-is = omega (arith, is);
+      column_is = refl;
+      at_is = omega (arith, is);
       inside = omega arith;
     }
 
@@ -90,17 +90,17 @@ returns-3 c =
     let a = u.args in
     let R = a.octets.now in
     let n = u.requires in
-    let room = le-ltb (length R) (10 + 4 * t R) (omega (arith, n.t-is)) in
+    let room = le-ltb (length R) (10 + 4 * t R) (omega (arith, n.t_is)) in
     let ranges : ℕ → Bool = λ i. within 1 81 (z R i) in
-    let all : all_below (t R) ranges ≡ true = rw (← n.t-is) (first-all a.s.t ranges c.before.before.before.first_out.ensures (omega arith)) in
-    let some : all_below (t R) (rises R) ≡ false = rw (← n.t-is) (first-some-not a.s.t (rises R) c.before.first-fall.ensures c.if3.true) in
-    let is : c.before.first-fall.result ≡ first_not (t R) (rises R) = rw (← n.t-is) c.before.first-fall.ensures in
+    let all : all_below (t R) ranges ≡ true = rw (← n.t_is) (first-all a.s.t ranges c.before.before.before.first_out.ensures (omega arith)) in
+    let some : all_below (t R) (rises R) ≡ false = rw (← n.t_is) (first-some-not a.s.t (rises R) c.before.first-fall.ensures c.if3.true) in
+    let is : c.before.first-fall.result ≡ first_not (t R) (rises R) = rw (← n.t_is) c.before.first-fall.ensures in
     record {
       first = rw (room, all, some);
       table_is = is;
       row_is = refl;
-      column-is = refl;
-      at-is = omega (arith, is);
+      column_is = refl;
+      at_is = omega (arith, is);
       inside = omega arith;
     }
 
@@ -113,8 +113,8 @@ of-offsets-requires c κs =
     let ranges : ℕ → Bool = λ i. within 1 81 (z R i) in
     record {
       pairs = record { sizes = n; room = omega arith };
-      range = rw (← n.t-is) (first-all a.s.t ranges c.before.before.before.first_out.ensures (omega arith));
-      rising = rw (← n.t-is) (first-all a.s.t (rises R) c.before.first-fall.ensures (omega arith));
+      range = rw (← n.t_is) (first-all a.s.t ranges c.before.before.before.first_out.ensures (omega arith));
+      rising = rw (← n.t_is) (first-all a.s.t (rises R) c.before.first-fall.ensures (omega arith));
     }
 
 returns-4 : tie.Need-returns-4
@@ -124,17 +124,17 @@ returns-4 c =
     let a = u.args in
     let R = a.octets.now in
     let n = u.requires in
-    let room = le-ltb (length R) (10 + 4 * t R) (omega (arith, n.t-is)) in
+    let room = le-ltb (length R) (10 + 4 * t R) (omega (arith, n.t_is)) in
     let ranges : ℕ → Bool = λ i. within 1 81 (z R i) in
-    let all : all_below (t R) ranges ≡ true = rw (← n.t-is) (first-all a.s.t ranges c.before.before.before.before.first_out.ensures (omega arith)) in
-    let up : all_below (t R) (rises R) ≡ true = rw (← n.t-is) (first-all a.s.t (rises R) c.before.before.first-fall.ensures (omega arith)) in
+    let all : all_below (t R) ranges ≡ true = rw (← n.t_is) (first-all a.s.t ranges c.before.before.before.before.first_out.ensures (omega arith)) in
+    let up : all_below (t R) (rises R) ≡ true = rw (← n.t_is) (first-all a.s.t (rises R) c.before.before.first-fall.ensures (omega arith)) in
     let told = c.of-offsets.ensures in
     record {
       first = rw (room, all, up) told.first;
       table_is = told.table_is;
       row_is = told.row_is;
-      column-is = told.column-is;
-      at-is = told.at-is;
+      column_is = told.column_is;
+      at_is = told.at_is;
       inside = told.inside;
     }
 

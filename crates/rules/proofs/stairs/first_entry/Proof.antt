@@ -7,10 +7,10 @@ use Rattle.rules.proofs.stairs.first_entry.Statement.{statement}
 use Rattle.rules.proofs.stairs.first_entry.Tie as tie
 
 mul-result : tie.Need-overflow-mul-result
-mul-result c = omega (arith, c.requires, c.well-formed)
+mul-result c = omega (arith, c.requires, c.well_formed)
 
 add-result : tie.Need-overflow-add-result
-add-result c = omega (arith, c.requires, c.well-formed)
+add-result c = omega (arith, c.requires, c.well_formed)
 
 shared-slice-read-result : tie.Need-shared-slice-read-result
 shared-slice-read-result c = search rules

@@ -13,7 +13,7 @@ add_row c = search rules
 mul-own : tie.Need-overflow-mul-own
 mul-own c =
     let s = c.before in
-    omega (arith, row-whole s.requires.0 (s.args.m + s.args.i) (omega arith), s.requires.0.columns-are)
+    omega (arith, row-whole s.requires.0 (s.args.m + s.args.i) (omega arith), s.requires.0.columns_are)
 
 add-own : tie.Need-overflow-add-own
 add-own c = search rules
@@ -21,12 +21,12 @@ add-own c = search rules
 add-own-2 : tie.Need-overflow-add-own-2
 add-own-2 c =
     let s = c.before in
-    omega (arith, row-whole s.requires.0 (s.args.m + s.args.i) (omega arith), s.requires.0.columns-are)
+    omega (arith, row-whole s.requires.0 (s.args.m + s.args.i) (omega arith), s.requires.0.columns_are)
 
 shared-slice-read-if1 : tie.Need-shared-slice-read-if1
 shared-slice-read-if1 c =
     let s = c.before.before in
-    omega (arith, row-whole s.requires.0 (s.args.m + s.args.i) (omega arith), s.requires.0.columns-are)
+    omega (arith, row-whole s.requires.0 (s.args.m + s.args.i) (omega arith), s.requires.0.columns_are)
 
 returns : tie.Need-returns
 returns c =
@@ -43,12 +43,12 @@ sub-later c = search rules
 add-first-filled : tie.Need-overflow-add-first-filled
 add-first-filled c =
     let s = c.before.before.before in
-    omega (arith, row-whole s.requires.0 (s.args.m + s.args.i) (omega arith), s.requires.0.columns-are)
+    omega (arith, row-whole s.requires.0 (s.args.m + s.args.i) (omega arith), s.requires.0.columns_are)
 
 first-filled-requires : tie.Need-first-filled-requires
 first-filled-requires c κs =
     let s = c.before.before.before in
-    omega (arith, row-whole s.requires.0 (s.args.m + s.args.i) (omega arith), s.requires.0.columns-are)
+    omega (arith, row-whole s.requires.0 (s.args.m + s.args.i) (omega arith), s.requires.0.columns_are)
 
 returns-2 : tie.Need-returns-2
 returns-2 c =

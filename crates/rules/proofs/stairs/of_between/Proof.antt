@@ -29,8 +29,8 @@ returns c =
     λ x. record {
       first = rw (between_none a.m (column T a.columns a.kb) one.result one.ensures (omega arith));
       row_is = row-none T a.kb a.m x a.columns one.result one.ensures (omega arith);
-      column-is = refl;
-      inside = omega (arith, row-stands s.requires 1 (omega (arith, s.requires.m-low)));
+      column_is = refl;
+      inside = omega (arith, row-stands s.requires 1 (omega (arith, s.requires.m_low)));
     }
 
 add-next-filled : tie.Need-overflow-add-next-filled
@@ -54,7 +54,7 @@ returns-2 c =
     λ x. record {
       first = rw (between-two a.m C one.result two.result one.ensures (omega arith) two.ensures (omega arith));
       row_is = row-second T a.kb a.m x a.columns one.result two.result one.ensures (omega arith) two.ensures;
-      column-is = refl;
+      column_is = refl;
       inside = omega (arith, row-stands s.requires two.result (omega arith));
     }
 
@@ -92,7 +92,7 @@ returns-3 c =
     let two = c.before.before.before.before.next-filled2 in
     let single = between-one a.m C one.result two.result one.ensures (omega arith) two.ensures (omega arith) in
     let unequal = ne_eqb (C 0) (C (a.m - 1)) (λ e. c.if3.true (sym (top_at T a.kb a.columns) ∙ e ∙ row_at T a.kb a.columns (a.m - 1))) in
-    λ x. record { first = rw (single, unequal); row_is = refl; column-is = refl; inside = omega (arith, row-stands s.requires (a.m - 1) (omega arith)) }
+    λ x. record { first = rw (single, unequal); row_is = refl; column_is = refl; inside = omega (arith, row-stands s.requires (a.m - 1) (omega arith)) }
 
 first-entry-requires : tie.Need-first-entry-requires
 first-entry-requires c κs =
@@ -114,7 +114,7 @@ returns-4 c =
     λ x. record {
       first = rw (single, equal, wrong);
       row_is = row-middle T a.kb a.m x a.columns one.result one.ensures;
-      column-is = refl;
+      column_is = refl;
       inside = omega (arith, row-stands s.requires one.result (omega arith));
     }
 
@@ -131,7 +131,7 @@ returns-5 c =
     let equal = eq-eqb (C 0) (C (a.m - 1)) (top_at T a.kb a.columns ∙ c.before.before.if3.false ∙ sym (row_at T a.kb a.columns (a.m - 1))) in
     let right =
     middle-right a.m C one.result two.result one.ensures (omega arith) two.ensures (omega arith) (sym c.before.first_entry.ensures ∙ c.if4.false) in
-    λ x. record { first = rw (single, equal, right); row_is = refl; column-is = refl; inside = omega (arith, row-stands s.requires 0 (omega arith)) }
+    λ x. record { first = rw (single, equal, right); row_is = refl; column_is = refl; inside = omega (arith, row-stands s.requires 0 (omega arith)) }
 
 pub of-between-spec : {M : Type 1} → statement M
 of-between-spec =

@@ -33,12 +33,12 @@ sub-n c = search rules
 first-column-off-requires : tie.Need-first-column-off-requires
 first-column-off-requires c κs =
     let s = c.before in
-    (stepped s.requires, omega (arith, s.requires.m-low), (row-whole s.requires 0 (omega (arith, s.requires.m-low))).1)
+    (stepped s.requires, omega (arith, s.requires.m_low), (row-whole s.requires 0 (omega (arith, s.requires.m_low))).1)
 
 first-off-requires : tie.Need-first-off-requires
 first-off-requires c κs =
     let s = c.before.before.before in
-    (stepped s.requires, omega arith, (row-whole s.requires 0 (omega (arith, s.requires.m-low))).1)
+    (stepped s.requires, omega arith, (row-whole s.requires 0 (omega (arith, s.requires.m_low))).1)
 
 add-t10 : tie.Need-overflow-add-t10
 add-t10 c =
@@ -62,7 +62,7 @@ returns c =
     record {
       first = rw (first-some-not (a.m - 1) right off.ensures c.before.if1.true);
       row_is = c.first_off.ensures ∙ ap (λ (i : ℕ). first_not a.m (λ row. next_right T a.kb a.columns row i)) off.ensures;
-      column-is = column-at;
+      column_is = column-at;
       inside = omega (arith, row-stands (stepped s.requires) c.first_off.result (below c));
     }
 
@@ -80,7 +80,7 @@ returns-2 c =
     record {
       first = rw (first-all (a.m - 1) right off.ensures (omega arith)) c.of-rows.ensures.first;
       row_is = c.of-rows.ensures.row_is;
-      column-is = c.of-rows.ensures.column-is;
+      column_is = c.of-rows.ensures.column_is;
       inside = c.of-rows.ensures.inside;
     }
 

@@ -39,8 +39,8 @@ returns c =
     record {
       first = extension-none T a.kb a.m a.x a.columns (first-all a.x right off.ensures c.if1.true);
       row_is = refl;
-      column-is = refl;
-      inside = omega (arith, row-whole s.requires 0 (omega (arith, s.requires.m-low)), s.requires.columns-are, s.requires.m-low);
+      column_is = refl;
+      inside = omega (arith, row-whole s.requires 0 (omega (arith, s.requires.m_low)), s.requires.columns_are, s.requires.m_low);
     }
 
 add_row : tie.Need-overflow-add-row
@@ -53,19 +53,19 @@ mul-own : tie.Need-overflow-mul-own
 mul-own c =
     let s = c.before.before.before in
     let i = c.before.first-extension-off.result in
-    omega (arith, row-whole s.requires (s.args.m + i) (omega arith), s.requires.columns-are)
+    omega (arith, row-whole s.requires (s.args.m + i) (omega arith), s.requires.columns_are)
 
 add-own : tie.Need-overflow-add-own
 add-own c =
     let s = c.before.before.before in
     let i = c.before.first-extension-off.result in
-    omega (arith, row-whole s.requires (s.args.m + i) (omega arith), s.requires.columns-are)
+    omega (arith, row-whole s.requires (s.args.m + i) (omega arith), s.requires.columns_are)
 
 shared-slice-read-if2 : tie.Need-shared-slice-read-if2
 shared-slice-read-if2 c =
     let s = c.before.before.before.before in
     let i = c.before.before.first-extension-off.result in
-    omega (arith, row-whole s.requires (s.args.m + i) (omega arith), s.requires.columns-are)
+    omega (arith, row-whole s.requires (s.args.m + i) (omega arith), s.requires.columns_are)
 
 returns-2 : tie.Need-returns-2
 unfolding place_of table_row table_column
@@ -78,8 +78,8 @@ returns-2 c =
     record {
       first = extension-own T a.kb a.m a.x a.columns off.result off.ensures (omega arith) c.if2.true;
       row_is = ap (λ (i : ℕ). a.m + i) off.ensures;
-      column-is = ap (λ (i : ℕ). a.kb + (a.m + i)) off.ensures;
-      inside = omega (arith, row-whole s.requires (a.m + off.result) (omega arith), s.requires.columns-are);
+      column_is = ap (λ (i : ℕ). a.kb + (a.m + i)) off.ensures;
+      inside = omega (arith, row-whole s.requires (a.m + off.result) (omega arith), s.requires.columns_are);
     }
 
 add-later : tie.Need-overflow-add-later
@@ -92,25 +92,25 @@ add-first-filled : tie.Need-overflow-add-first-filled
 add-first-filled c =
     let s = c.before.before.before.before.before in
     let i = c.before.before.before.first-extension-off.result in
-    omega (arith, row-whole s.requires (s.args.m + i) (omega arith), s.requires.columns-are)
+    omega (arith, row-whole s.requires (s.args.m + i) (omega arith), s.requires.columns_are)
 
 first-filled-requires : tie.Need-first-filled-requires
 first-filled-requires c κs =
     let s = c.before.before.before.before.before in
     let i = c.before.before.before.first-extension-off.result in
-    omega (arith, row-whole s.requires (s.args.m + i) (omega arith), s.requires.columns-are)
+    omega (arith, row-whole s.requires (s.args.m + i) (omega arith), s.requires.columns_are)
 
 add-t13 : tie.Need-overflow-add-t13
 add-t13 c =
     let s = c.before.before.before.before.before.before in
     let i = c.before.before.before.before.first-extension-off.result in
-    omega (arith, row-whole s.requires (s.args.m + i) (omega arith), s.requires.columns-are)
+    omega (arith, row-whole s.requires (s.args.m + i) (omega arith), s.requires.columns_are)
 
 add-t16 : tie.Need-overflow-add-t16
 add-t16 c =
     let s = c.before.before.before.before.before.before in
     let i = c.before.before.before.before.first-extension-off.result in
-    omega (arith, row-whole s.requires (s.args.m + i) (omega arith), s.requires.columns-are, later c)
+    omega (arith, row-whole s.requires (s.args.m + i) (omega arith), s.requires.columns_are, later c)
 
 returns-3 : tie.Need-returns-3
 unfolding place_of table_row table_column
@@ -129,8 +129,8 @@ returns-3 c =
     record {
       first = extension-later T a.kb a.m a.x a.columns off.result off.ensures (omega arith) c.before.if2.false;
       row_is = ap (λ (j : ℕ). a.m + j) off.ensures;
-      column-is = at ∙ ap (λ (j : ℕ). filled_column T a.columns (a.m + j) (a.kb + (a.m + j) + 1) (a.x - (j + 1))) off.ensures;
-      inside = omega (arith, row-whole s.requires (a.m + off.result) (omega arith), s.requires.columns-are, later c);
+      column_is = at ∙ ap (λ (j : ℕ). filled_column T a.columns (a.m + j) (a.kb + (a.m + j) + 1) (a.x - (j + 1))) off.ensures;
+      inside = omega (arith, row-whole s.requires (a.m + off.result) (omega arith), s.requires.columns_are, later c);
     }
 
 pub of-extension-spec : {M : Type 1} → statement M

@@ -33,24 +33,24 @@ mul-first-filled : tie.Need-overflow-mul-first-filled
 mul-first-filled c =
     let s = c.before.before.before in
     let row = c.before.first-row-on.result in
-    omega (arith, row-whole s.requires row (omega arith), s.requires.columns-are)
+    omega (arith, row-whole s.requires row (omega arith), s.requires.columns_are)
 
 add-first-filled : tie.Need-overflow-add-first-filled
 add-first-filled c =
     let s = c.before.before.before in
     let row = c.before.first-row-on.result in
-    omega (arith, row-whole s.requires row (omega arith), s.requires.columns-are)
+    omega (arith, row-whole s.requires row (omega arith), s.requires.columns_are)
 
 first-filled-requires : tie.Need-first-filled-requires
 first-filled-requires c κs =
     let s = c.before.before.before in
     let row = c.before.first-row-on.result in
-    omega (arith, row-whole s.requires row (omega arith), s.requires.columns-are)
+    omega (arith, row-whole s.requires row (omega arith), s.requires.columns_are)
 
 add-t10 : tie.Need-overflow-add-t10
 add-t10 c =
     let s = c.before.before.before.before in
-    omega (arith, row-whole s.requires c.before.before.first-row-on.result (omega arith), s.requires.columns-are, filled c)
+    omega (arith, row-whole s.requires c.before.before.first-row-on.result (omega arith), s.requires.columns_are, filled c)
 
 returns : tie.Need-returns
 unfolding answered place_of table_row table_column
@@ -64,8 +64,8 @@ returns c =
     record {
       first = rw (first-some-not a.m (row_ends T a.kb a.m a.x a.columns) on.ensures c.before.if1.true);
       row_is = on.ensures;
-      column-is = column-at ∙ ap (λ (row : ℕ). filled_column T a.columns row from a.x) on.ensures;
-      inside = omega (arith, row-whole s.requires on.result (omega arith), s.requires.columns-are, filled c);
+      column_is = column-at ∙ ap (λ (row : ℕ). filled_column T a.columns row from a.x) on.ensures;
+      inside = omega (arith, row-whole s.requires on.result (omega arith), s.requires.columns_are, filled c);
     }
 
 of-extension-requires : tie.Need-of-extension-requires
@@ -81,7 +81,7 @@ returns-2 c =
     record {
       first = rw (first-all a.m (row_ends T a.kb a.m a.x a.columns) on.ensures (omega arith)) c.of-extension.ensures.first;
       row_is = c.of-extension.ensures.row_is;
-      column-is = c.of-extension.ensures.column-is;
+      column_is = c.of-extension.ensures.column_is;
       inside = c.of-extension.ensures.inside;
     }
 

@@ -18,7 +18,7 @@ returns c =
     record {
       first = table-first T a.kb a.m a.x a.columns spot.result.rule told.first c.if1.true;
       row_is = told.row_is;
-      column-is = told.column-is;
+      column_is = told.column_is;
       inside = told.inside;
     }
 
@@ -35,7 +35,7 @@ returns-2 c =
     record {
       first = table-later T a.kb a.m a.x a.columns c.of-columns.result.rule none c.of-columns.ensures.first;
       row_is = c.of-columns.ensures.row_is;
-      column-is = c.of-columns.ensures.column-is;
+      column_is = c.of-columns.ensures.column_is;
       inside = c.of-columns.ensures.inside;
     }
 

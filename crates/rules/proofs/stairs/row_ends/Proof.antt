@@ -9,7 +9,7 @@ use Rattle.rules.proofs.stairs.row_ends.Tie as tie
 mul-first-filled : tie.Need-overflow-mul-first-filled
 mul-first-filled c =
     let s = c.before in
-    omega (arith, row-whole s.requires.0 s.args.row (omega arith), s.requires.0.columns-are)
+    omega (arith, row-whole s.requires.0 s.args.row (omega arith), s.requires.0.columns_are)
 
 add-first-filled : tie.Need-overflow-add-first-filled
 add-first-filled c = search rules
@@ -17,12 +17,12 @@ add-first-filled c = search rules
 add-first-filled-2 : tie.Need-overflow-add-first-filled-2
 add-first-filled-2 c =
     let s = c.before in
-    omega (arith, row-whole s.requires.0 s.args.row (omega arith), s.requires.0.columns-are)
+    omega (arith, row-whole s.requires.0 s.args.row (omega arith), s.requires.0.columns_are)
 
 first-filled-requires : tie.Need-first-filled-requires
 first-filled-requires c κs =
     let s = c.before in
-    omega (arith, row-whole s.requires.0 s.args.row (omega arith), s.requires.0.columns-are)
+    omega (arith, row-whole s.requires.0 s.args.row (omega arith), s.requires.0.columns_are)
 
 returns : tie.Need-returns
 returns c =

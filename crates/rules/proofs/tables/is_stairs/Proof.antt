@@ -18,7 +18,7 @@ of-table-requires c κs =
     let a = u.args in
     let R = a.octets.now in
     let n = u.requires.0.sizes in
-    rw (n.kb-is, n.m-is, n.x-is, n.columns-is) c.table.ensures.whole
+    rw (n.kb_is, n.m_is, n.x_is, n.columns_is) c.table.ensures.whole
 
 returns : tie.Need-returns
 returns c =
@@ -27,7 +27,7 @@ returns c =
     let R = a.octets.now in
     let n = u.requires.0.sizes in
     let same : c.before.of-table.result.rule ≡ table_rule (table R a.i) (kb R) (m R) (x R) (columns R) =
-    cc (c.before.of-table.ensures.first, c.before.before.table.ensures.same, n.kb-is, n.m-is, n.x-is, n.columns-is) in
+    cc (c.before.of-table.ensures.first, c.before.before.table.ensures.same, n.kb_is, n.m_is, n.x_is, n.columns_is) in
     ap (λ (k : ℕ). eqb k 0) same ∙ stairs-test R a.i
 
 pub is-stairs-spec : {M : Type 1} → statement M

@@ -30,10 +30,10 @@ returns c =
     let a = u.args in
     let R = a.octets.now in
     let n = u.requires.zs.pairs.sizes in
-    let wrong : ends_right R ≡ false = ends_wrong R (λ e. c.before.if1.true (cc (e, c.before.before.offset-due.ensures, n.t-is, n.size_is))) in
+    let wrong : ends_right R ≡ false = ends_wrong R (λ e. c.before.if1.true (cc (e, c.before.before.offset-due.ensures, n.t_is, n.size_is))) in
     let at : c.smaller.result ≡ smaller (length R) (offset_due R (t R)) =
-    cc (c.smaller.ensures.0, c.before.before.offset-due.ensures, n.t-is, n.size_is) in
-    record { first = rw wrong; table_is = refl; row_is = refl; column-is = refl; at-is = at; inside = omega (arith, c.smaller.ensures.1) }
+    cc (c.smaller.ensures.0, c.before.before.offset-due.ensures, n.t_is, n.size_is) in
+    record { first = rw wrong; table_is = refl; row_is = refl; column_is = refl; at_is = at; inside = omega (arith, c.smaller.ensures.1) }
 
 of-shifts-requires : tie.Need-of-shifts-requires
 of-shifts-requires c κs =
@@ -42,7 +42,7 @@ of-shifts-requires c κs =
     let R = a.octets.now in
     let z = u.requires.zs in
     let n = z.pairs.sizes in
-    let right : ends_right R ≡ true = ends-right R (cc (c.if1.false, c.before.offset-due.ensures, n.t-is, n.size_is)) in
+    let right : ends_right R ≡ true = ends-right R (cc (c.if1.false, c.before.offset-due.ensures, n.t_is, n.size_is)) in
     record { sizes = n; shape = shape-passed R n.front z.range z.rising u.requires.links right }
 
 returns-2 : tie.Need-returns-2
@@ -52,14 +52,14 @@ returns-2 c =
     let a = u.args in
     let R = a.octets.now in
     let n = u.requires.zs.pairs.sizes in
-    let right : ends_right R ≡ true = ends-right R (cc (c.before.if1.false, c.before.before.offset-due.ensures, n.t-is, n.size_is)) in
+    let right : ends_right R ≡ true = ends-right R (cc (c.before.if1.false, c.before.before.offset-due.ensures, n.t_is, n.size_is)) in
     let told = c.of-shifts.ensures in
     record {
       first = rw right told.first;
       table_is = told.table_is;
       row_is = told.row_is;
-      column-is = told.column-is;
-      at-is = told.at-is;
+      column_is = told.column_is;
+      at_is = told.at_is;
       inside = told.inside;
     }
 

@@ -63,19 +63,19 @@ returns c =
     let first = c.before.before.before.first-table-over in
     let i = first.result in
     let l = c.before.before.if1.true in
-    let some : all_below (t R) (table_right R) ≡ false = rw (← n.t-is) (first-some-not a.s.t (table_right R) first.ensures l) in
-    let is : i ≡ first_not (t R) (table_right R) = rw (← n.t-is) first.ensures in
+    let some : all_below (t R) (table_right R) ≡ false = rw (← n.t_is) (first-some-not a.s.t (table_right R) first.ensures l) in
+    let is : i ≡ first_not (t R) (table_right R) = rw (← n.t_is) first.ensures in
     let k = c.before.over-in.result in
     let over : k ≡ entry_over R i = over-is R i k (rw (← n.size_is) c.before.over-in.ensures) in
     let told =
     told-entry R n u.requires.shape 15 i (k / a.s.columns) (k % a.s.columns) c.told.result c.told.ensures (omega arith) l (placed c.before)
-    (over-table R i is) (cc (over, n.columns-is, over-row R i is)) (cc (over, n.columns-is, over-column R i is)) in
+    (over-table R i is) (cc (over, n.columns_is, over-row R i is)) (cc (over, n.columns_is, over-column R i is)) in
     record {
       first = rw some told.first;
       table_is = told.table_is;
       row_is = told.row_is;
-      column-is = told.column-is;
-      at-is = told.at-is;
+      column_is = told.column_is;
+      at_is = told.at_is;
       inside = told.inside;
     }
 
@@ -90,14 +90,14 @@ returns-2 c =
     let R = a.octets.now in
     let n = u.requires.sizes in
     let all : all_below (t R) (table_right R) ≡ true =
-    rw (← n.t-is) (first-all a.s.t (table_right R) c.before.before.first-table-over.ensures (omega arith)) in
+    rw (← n.t_is) (first-all a.s.t (table_right R) c.before.before.first-table-over.ensures (omega arith)) in
     let told = c.of-stairs.ensures in
     record {
       first = rw all told.first;
       table_is = told.table_is;
       row_is = told.row_is;
-      column-is = told.column-is;
-      at-is = told.at-is;
+      column_is = told.column_is;
+      at_is = told.at_is;
       inside = told.inside;
     }
 

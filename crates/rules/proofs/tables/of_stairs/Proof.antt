@@ -27,7 +27,7 @@ of-table-requires c κs =
     let a = u.args in
     let R = a.octets.now in
     let n = u.requires.sizes in
-    rw (n.kb-is, n.m-is, n.x-is, n.columns-is) c.table.ensures.whole
+    rw (n.kb_is, n.m_is, n.x_is, n.columns_is) c.table.ensures.whole
 
 told-requires : tie.Need-told-requires
 told-requires c κs =
@@ -52,17 +52,17 @@ returns c =
     let l = c.before.before.before.if1.true in
     let table_of = c.before.before.table.ensures.same in
     let spot = c.before.of-table in
-    let is : i ≡ first_not (t R) (stairs R) = rw (← n.t-is) first.ensures in
-    let some : all_below (t R) (stairs R) ≡ false = rw (← n.t-is) (first-some-not a.s.t (stairs R) first.ensures l) in
+    let is : i ≡ first_not (t R) (stairs R) = rw (← n.t_is) first.ensures in
+    let some : all_below (t R) (stairs R) ≡ false = rw (← n.t_is) (first-some-not a.s.t (stairs R) first.ensures l) in
     let same : spot.result.rule ≡ table_rule (table R i) (kb R) (m R) (x R) (columns R) =
-    cc (spot.ensures.first, table_of, n.kb-is, n.m-is, n.x-is, n.columns-is) in
+    cc (spot.ensures.first, table_of, n.kb_is, n.m_is, n.x_is, n.columns_is) in
     let size = table-length R n u.requires.shape i l in
     let rule = spot.result.rule in
     let late : 16 ≤ rule = omega (arith, same, stair_some R i is some, (stair_range R some).0) in
     let row : spot.result.row ≡ record_row R rule =
-    cc (spot.ensures.row_is, stair-row R rule late i is, table_of, n.kb-is, n.m-is, n.x-is, n.columns-is) in
+    cc (spot.ensures.row_is, stair-row R rule late i is, table_of, n.kb_is, n.m_is, n.x_is, n.columns_is) in
     let col : spot.result.column ≡ record_column R rule =
-    cc (spot.ensures.column-is, stair-column R rule late i is, table_of, n.kb-is, n.m-is, n.x-is, n.columns-is) in
+    cc (spot.ensures.column_is, stair-column R rule late i is, table_of, n.kb_is, n.m_is, n.x_is, n.columns_is) in
     let told =
     told-entry R n u.requires.shape rule i spot.result.row spot.result.column c.told.result c.told.ensures (omega (arith, late)) l
     (omega (arith, spot.ensures.inside, ap length table_of, size)) (stair-table R rule late i is) row col in
@@ -70,8 +70,8 @@ returns c =
       first = told.first ∙ same ∙ sym (stair_some R i is some);
       table_is = told.table_is;
       row_is = told.row_is;
-      column-is = told.column-is;
-      at-is = told.at-is;
+      column_is = told.column_is;
+      at_is = told.at_is;
       inside = told.inside;
     }
 
@@ -82,8 +82,8 @@ returns-2 c =
     let a = u.args in
     let R = a.octets.now in
     let n = u.requires.sizes in
-    let all : all_below (t R) (stairs R) ≡ true = rw (← n.t-is) (first-all a.s.t (stairs R) c.before.first-no-stairs.ensures (omega arith)) in
-    record { first = sym (stair_none R all); table_is = refl; row_is = refl; column-is = refl; at-is = refl; inside = omega arith }
+    let all : all_below (t R) (stairs R) ≡ true = rw (← n.t_is) (first-all a.s.t (stairs R) c.before.first-no-stairs.ensures (omega arith)) in
+    record { first = sym (stair_none R all); table_is = refl; row_is = refl; column_is = refl; at_is = refl; inside = omega arith }
 
 pub of-stairs-spec : {M : Type 1} → statement M
 of-stairs-spec =

@@ -28,7 +28,7 @@ number-at-requires c κs =
     let u = c.before in
     let a = u.args in
     let R = a.octets.now in
-    omega (arith, (shape_is R u.requires.0.shape).pair a.i (omega (arith, u.requires.0.sizes.t-is, u.requires.1)))
+    omega (arith, (shape_is R u.requires.0.shape).pair a.i (omega (arith, u.requires.0.sizes.t_is, u.requires.1)))
 
 table-requires : tie.Need-table-requires
 table-requires c κs = search rules

@@ -50,7 +50,7 @@ returns c =
     let long : start + size - start ≡ size = omega arith in
     let at : start ≡ offset R a.i = c.before.before.offset-due.ensures ∙ table-start R n u.requires.0.shape a.i u.requires.1 in
     let part : take (start + size - start) (drop start R) ≡ take (table_size R) (drop (offset R a.i) R) = cc (long, at, n.size_is) in
-    record { same = part; whole = rw part (table-whole R (shape_is R u.requires.0.shape) a.i (omega (arith, n.t-is, u.requires.1))) }
+    record { same = part; whole = rw part (table-whole R (shape_is R u.requires.0.shape) a.i (omega (arith, n.t_is, u.requires.1))) }
 
 pub table-spec : {M : Type 1} → statement M
 table-spec =

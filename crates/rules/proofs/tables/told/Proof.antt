@@ -23,7 +23,7 @@ add-t10 c =
     omega (arith, most, s.requires.3)
 
 returns : tie.Need-returns
-returns c = record { rule-is = refl; table_is = refl; row_is = refl; column-is = refl; at-is = omega (arith, c.offset-due.ensures) }
+returns c = record { rule_is = refl; table_is = refl; row_is = refl; column_is = refl; at_is = omega (arith, c.offset-due.ensures) }
 
 pub told-spec : {M : Type 1} → statement M
 told-spec = tie.close (tie.spec offset-due-requires mul-t8 add-t9 add-t10 returns)

@@ -31,7 +31,7 @@ returns-2 c =
     let w = c.before in
     let s = w.before.before.before.before.before in
     let asked : 1 ≤ s.args.tenant = omega arith in
-    let wrong : private_shelf s.args.private.now ≡ false = sym w.before.well-formed.ensures ∙ not-true _ w.if2.taken in
+    let wrong : private_shelf s.args.private.now ≡ false = sym w.before.well_formed.ensures ∙ not-true _ w.if2.taken in
     subst (Looked s.args.private.now s.args.public.now s.args.tenant s.args.profile) (sym c.refused2.ensures)
     (looked_refused _ _ _ _ 2 (private-wrong _ _ _ _ asked wrong) (λ z. omega arith))
 
@@ -47,7 +47,7 @@ returns-3 c =
     let v = w.before.before in
     let s = v.before.before.before.before.before in
     let asked : 1 ≤ s.args.tenant = omega arith in
-    let own : private_shelf s.args.private.now ≡ true = sym v.before.well-formed.ensures ∙ not-false _ v.if2.left in
+    let own : private_shelf s.args.private.now ≡ true = sym v.before.well_formed.ensures ∙ not-false _ v.if2.left in
     let wrong : public_shelf s.args.public.now ≡ false = sym w.before.well-formed2.ensures ∙ not-true _ w.if3.taken in
     subst (Looked s.args.private.now s.args.public.now s.args.tenant s.args.profile) (sym c.refused3.ensures)
     (looked_refused _ _ _ _ 3 (public-wrong _ _ _ _ asked own wrong) (λ z. omega arith))
@@ -56,7 +56,7 @@ choose-requires : tie.Need-choose-requires
 choose-requires c κs =
     let v = c.before.before in (
       omega arith,
-      sym v.before.well-formed.ensures ∙ not-false _ v.if2.left,
+      sym v.before.well_formed.ensures ∙ not-false _ v.if2.left,
       sym c.before.well-formed2.ensures ∙ not-false _ c.if3.left,
       search rules,
       search rules,

@@ -11,7 +11,7 @@ use Rattle.bits.specs.Bits.{AreOctets}
 use Rattle.bits.proofs.Ranges.{all_of, all_fails}
 use Rattle.shelf.specs.Shelf.{count, offset_due, ends_right}
 use Rattle.shelf.specs.Steps.Walking.{least_pair, entry_right, entries_right}
-use Rattle.shelf.proofs.WellFormed.{least-next, due-after, sizes_are, entry-is, offset-small, entry-carried}
+use Rattle.shelf.proofs.WellFormed.{least-next, due-after, sizes_are, entry_is, offset-small, entry-carried}
 use Rattle.shelf.proofs.inner.form.entries_right.Statement.{statement}
 use Rattle.shelf.proofs.inner.form.entries_right.Tie as tie
 
@@ -76,7 +76,7 @@ add-due-2 c =
     let s = u.before.before.before.before.before in
     let S = s.before.args.shelf.now in
     let l = u.before.before.before.loop in
-    omega (arith, (entry-is S l.k (right u)).1, offset-small S (octets s) l.k)
+    omega (arith, (entry_is S l.k (right u)).1, offset-small S (octets s) l.k)
 
 add-k : tie.Need-overflow-add-k invariant-loop decreases-loop
 add-k c = search rules
@@ -91,7 +91,7 @@ loop-again c =
     let l = u.before.before.before.loop in (
       search rules,
       omega (arith, least-next S l.k),
-      omega (arith, due-after S l.k, (entry-is S l.k (right u)).1),
+      omega (arith, due-after S l.k, (entry_is S l.k (right u)).1),
       below_more (λ (j : ℕ). entry_right S j ≡ true) l.k l.invariant.3 (right u),
     )
 

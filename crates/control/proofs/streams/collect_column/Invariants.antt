@@ -1,0 +1,13 @@
+-- The loop's invariant: the rows of the column above p are collected.
+use mathlib.Core.Path.{◌≡◌}
+use Prim.Native.Nat.{◌-◌}
+use lib.ListN.{length}
+use Rattle.control.specs.Steps.Order.{CollectedOn}
+use Rattle.control.proofs.Loops.{Column}
+use Rattle.control.proofs.streams.collect_column.Given as goal
+
+abbrev pub invariant-loop-p : goal.invariant-loop-p
+invariant-loop-p l = Column l.d l.j l.c l.p l.m × (length l.out ≡ length l.initial.out) × CollectedOn l.d l.streams l.n l.m l.initial.out l.out
+
+abbrev pub decreases-loop-p : goal.decreases-loop-p
+decreases-loop-p l = l.d - l.p

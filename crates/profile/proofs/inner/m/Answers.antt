@@ -1,0 +1,10 @@
+use native.Mathlib.Omega.{arith}
+use borrow.Author.Rules.{rules}
+use Rattle.profile.proofs.Accepted.{accepted-shape, accepted}
+use Rattle.profile.proofs.inner.m.Goals as goal
+
+pub m-requires : goal.m-requires
+m-requires c = omega (arith, (accepted-shape c.args.profile.now c.requires).header.long)
+
+pub returns : goal.returns
+returns c = let known = accepted c.args.profile.now c.requires in search rules
