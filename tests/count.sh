@@ -6,7 +6,7 @@ top=$(dirname "$(dirname "$(readlink -f "$0")")")
 name=$(basename "$0")
 machine=$(uname -m)
 kit=$(dirname "$(dirname "$(readlink -f "$(command -v rt)")")")
-tools=$kit/on/$machine/toolchain
+tools=$kit/toolchain
 version=$(sed -n 's/^#define KUAMBYTE_VERSION "\(.*\)"/\1/p' "$top/include/kuambyte.h")
 work=$(mktemp -d)
 trap 'rm -rf "$work"' EXIT
