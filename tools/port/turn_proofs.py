@@ -36,6 +36,10 @@ def blocks(text):
         elif line.startswith("--"):
             note.append(line)
             current = None
+        elif line.startswith("module "):
+            current = ["module", note, [line]]
+            note = []
+            found.append(current)
         elif HEAD.match(line):
             current = [HEAD.match(line).group(1), note, [line]]
             note = []
@@ -43,6 +47,34 @@ def blocks(text):
         elif current is not None:
             current[2].append(line)
     return head, uses, [(n, c, "\n".join(b).rstrip()) for n, c, b in found]
+
+
+def without_modules(text):
+    """A module over a place of the code, as declarations that each take the place."""
+    while True:
+        m = re.search(r"(?m)^module _ \((c : tie\.[^()]*)\) where\n((?:(?:  .*)?\n)+)", text)
+        if not m:
+            return text
+        place = m.group(1)
+        inside = "\n".join(line[2:] if line.startswith("  ") else line for line in m.group(2).split("\n"))
+        names = re.findall(r"(?m)^(?:abbrev |pub )*([^\s(){}:;,.]+) :(?= )", inside)
+        out = []
+        for line in inside.split("\n"):
+            head = re.match(r"^((?:abbrev |pub )*([^\s(){}:;,.]+) :) (.*)$", line)
+            name = head.group(2) if head else None
+            start = re.match(r"^(\S+)((?: \S+)*?) =(?= |$)(.*)$", line)
+            lead, rest = "", line
+            if head:
+                lead, rest = f"{head.group(1)} ({place}) → ", head.group(3)
+            elif start and start.group(1) in names:
+                lead, rest = f"{start.group(1)} c{start.group(2)} =", start.group(3)
+            if line.startswith("unfolding "):
+                out.append(line)
+                continue
+            for n in names:
+                rest = re.sub(r"(?<![^\s(){};,\[\]])" + re.escape(n) + r"(?![^\s(){}.;,\[\]])", f"({n} c)", rest)
+            out.append(lead + rest)
+        text = text[: m.start()] + "\n".join(out) + "\n" + text[m.end() :]
 
 
 def arguments(lines, name):
@@ -76,10 +108,12 @@ class Names:
         for old, new in table["needs"]:
             self.needs.setdefault(plain(old), new)
         self.order = [new for _, new in table["needs"]]
-        self.steps, self.fields = {}, {}
+        self.steps, self.fields, self.raw = {}, {}, {}
         for place in table["places"]:
             old, new = place[2]
             # A lent variable that came back is no step that a proof names.
+            if old:
+                self.raw.setdefault(plain(old), new)
             if old and ("known" in old or not re.fullmatch(re.escape(old) + r"-\d+", new)):
                 self.steps.setdefault(plain(old), new)
             for a, b in place[4]:
@@ -111,12 +145,23 @@ def turn_paths(text, names):
         k = 0
         while k < len(chain):
             f = chain[k]
+            # A fact that every function has takes this name before a call does.
+            m = re.fullmatch(r"well_formed(\d*)", plain(f))
+            if m and "well_formed" not in names.steps and k + 1 < len(chain) and chain[k + 1] in ("ensures", "result", "new", "auto"):
+                f = f"well_formed{int(m.group(1) or 1) + 1}"
             # The kit's script took some steps for words of its library.
             if plain(f) not in names.steps and f.endswith("_lem") and plain(f[:-4]) in names.steps:
                 f = f[:-4]
             if (k == 0 or chain[k - 1] == "before") and plain(f) in names.steps and f not in ("before", "args", "requires"):
                 out.append(names.steps[plain(f)])
                 step = plain(f)
+            elif k + 1 < len(chain) and chain[k + 1] == "given" and plain(f) in names.raw:
+                out.append(names.raw[plain(f)])
+            elif step is not None and step.startswith("if") and f in ("taken", "left"):
+                f = "true" if f == "taken" else "false"
+                out.append(names.fields.get((step, f), f))
+            elif f == "pre" and all(x == "before" for x in out):
+                out.append("requires")
             elif step is not None and (step, f) in names.fields:
                 out.append(names.fields[(step, f)])
             elif f in ("new", "auto") and step is not None and names.steps[step] in names.callee:
@@ -138,7 +183,7 @@ def turn_paths(text, names):
     return re.sub(r"(" + TOKEN + r"|\))((?:\.[^\s(){}.;,@\"«»\[\]]+)+)", one, text)
 
 
-PLACED = re.compile(r"^(?:\(c : tie\.[^()]*\)|tie\.\S+(?: invariant-\S+ decreases-\S+)*)(?:\s*→)?\s*")
+PLACED = re.compile(r"^(?:\(\w+ : tie\.[^()]*\)|tie\.\S+(?: invariant-\S+ decreases-\S+)*)(?:\s*→)?\s*")
 
 
 class Helper:
@@ -152,8 +197,11 @@ class Helper:
         self.unfolding = [w for u in re.findall(r"(?m)^unfolding (.*)$", before) for w in u.split()]
         kind = re.sub(r"(?m)^unfolding .*$", "", before)
         kind = kind.split(" :", 1)[1].strip()
+        bound = re.match(r"\((\w+) : tie\.", kind)
+        if bound and bound.group(1) != "c":
+            kind = re.sub(r"(?<![^\s(){};,\[\]])" + bound.group(1) + r"(?![^\s(){}.;,\[\]])", "c", kind)
         self.abbrev = block.startswith("abbrev")
-        self.place_only = re.fullmatch(r"tie\.\S+.* → tie\.\S+.*", kind) is not None
+        self.place_only = re.fullmatch(r"(?:tie\.\S+.*|\(\w+ : tie\.[^()]*\)) → tie\.\S+[^→]*", kind, re.S) is not None
         self.kind = flat(turn_paths(PLACED.sub("", kind, count=1).strip(), names))
         self.arg, self.rest = args[0], args[1:]
         # A `let` has no implicit arguments.
@@ -196,20 +244,22 @@ def turn_body(text, names, helpers):
     """A right side, with the place that it stands at as the only one; and the lemmas that it uses, in the order in which they are told."""
     text = turn_paths(text, names)
     # A place that has a name of its own is that of `c`.
-    start = next((h.name for h in helpers.values() if h.place_only), None)
-    if start:
-        text = re.sub(r"\(" + start + r" (\w+)((?:\.before)*)\)", r"\1\2", text)
-        text = re.sub(r"(?<![^\s(){};,\[\]])" + start + r" (\w+)((?:\.before)*)(?![\w.])", r"\1\2", text)
+    starts = [h.name for h in helpers.values() if h.place_only]
     while True:
-        m = re.search(r"let (\w+) = c(?:\.before)+ in ?\(?\s*", text)
-        if not m:
+        before = text
+        for start in starts:
+            text = re.sub(r"\(" + start + r" (\w+)((?:\.before)*)\)", r"\1\2", text)
+            text = re.sub(r"(?<![^\s(){};,\[\]])" + start + r" (c)((?:\.before)*)(?![\w.])", r"\1\2", text)
+        m = re.search(r"let (\w+) = c(?:\.before)* in ?\(?\s*", text)
+        if m:
+            whole, alias = m.group(0), m.group(1)
+            rest = text[m.end() :]
+            if whole.rstrip().endswith("("):
+                rest = "(" + rest
+            text = text[: m.start()] + re.sub(r"(?<![^\s(){};,\[\]])" + alias + r"(?![^\s(){}.;,\[\]])", "c", rest)
+        text = re.sub(r"\(c((?:\.before)*)\)(?=\.)", r"c\1", text)
+        if text == before:
             break
-        whole, alias = m.group(0), m.group(1)
-        rest = text[m.end() :]
-        opened = whole.rstrip().endswith("(")
-        if opened:
-            rest = "(" + rest
-        text = text[: m.start()] + re.sub(r"(?<![^\s(){};,\[\]])" + alias + r"(?![^\s(){}.;,\[\]])", "c", rest)
     text = flat(text)
     used = []
     for name, h in helpers.items():
@@ -273,7 +323,7 @@ def turn(path, module, table):
     with open(path, encoding="utf-8") as f:
         text = f.read()
     names = Names(table)
-    head, uses, found = blocks(text)
+    head, uses, found = blocks(without_modules(text))
     uses = [u for u in uses if ".Statement." not in u and not u.endswith(".Tie as tie")]
     invariants, answers, loops, placed, own = [], [], [], {}, []
     order = {new: k for k, new in enumerate(names.order)}
@@ -308,7 +358,7 @@ def turn(path, module, table):
             by_new[new] = (note, new, unfolds, right, len(answers), args[0])
             answers.append(("need", new))
             continue
-        if " : tie." in typed or "(c : tie." in typed or re.search(r"(?m)^ +\S+ : tie\.", typed):
+        if " : tie." in typed or re.search(r" : \(\w+ : tie\.", typed) or re.search(r"(?m)^ +\S+ : tie\.", typed):
             placed[name] = Helper(name, note, block, names)
         else:
             own.append((note, name, block))

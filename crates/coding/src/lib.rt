@@ -1,5 +1,6 @@
 // From a transport block to radio bits and back: sending and receiving.
 #![tactic(auto)]
+
 pub mod inner;
 mod receiving;
 mod sending;

@@ -5,7 +5,7 @@ use native.Mathlib.Omega.{arith}
 use borrow.Author.Rules.{rules}
 use Rattle.bits.specs.Bits.{AreOctets}
 use Rattle.shelf.specs.Steps.Walking.{pair}
-use Rattle.shelf.proofs.Finding.{entry_found, entry-none}
+use Rattle.shelf.proofs.Finding.{entry-is_found, entry-none}
 use Rattle.shelf.proofs.inner.find.entry_of.Statement.{statement}
 use Rattle.shelf.proofs.inner.find.entry_of.Tie as tie
 
@@ -51,7 +51,7 @@ returns-3 c =
     let s = k.before.before in
     let a = s.before.args in
     let same : pair a.shelf.now k.place-of.result ≡ a.tenant * 65536 + a.profile = omega arith in
-    entry_found a.shelf.now (octets s) a.tenant a.profile s.before.requires.3 k.place-of.result k.place-of.ensures
+    entry-is_found a.shelf.now (octets s) a.tenant a.profile s.before.requires.3 k.place-of.result k.place-of.ensures
     (omega (arith, k.place-of.ensures.inside)) same
 
 pub entry-of-spec : {M : Type 1} → statement M

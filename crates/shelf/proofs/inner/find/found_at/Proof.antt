@@ -1,6 +1,6 @@
 -- `shelf::inner::find::found_at` meets its contract.
 use borrow.Author.Rules.{rules}
-use Rattle.shelf.specs.Steps.Finding.{entry_found}
+use Rattle.shelf.specs.Steps.Finding.{entry-is_found}
 use Rattle.shelf.proofs.inner.find.found_at.Statement.{statement}
 use Rattle.shelf.proofs.inner.find.found_at.Tie as tie
 
