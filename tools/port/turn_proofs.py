@@ -80,7 +80,7 @@ def without_modules(text):
 def arguments(lines, name):
     """A definition's arguments and its right side, from the line that defines it."""
     text = "\n".join(lines)
-    m = re.search(r"(?m)^" + re.escape(name) + r"((?: [^=\n]+?)?) =(?=[ \n])", text)
+    m = re.search(r"(?m)^" + re.escape(name) + r"((?: [^=:\n]+?)?) =(?=[ \n])", text)
     if not m:
         return None, None, None
     return m.group(1).split(), text[m.end() :], text[: m.start()]

@@ -1,5 +1,6 @@
 // What to ask for where bits were refused with 10 or 13: the least G with which every block has room.
 #![tactic(auto)]
+
 ghost use Rattle.std.specs.Prelude.{◌≡◌};
 ghost use Rattle.bits.specs.Steps.Counting.{Usable};
 ghost use Rattle.cutting.specs.Steps.Plans.{PlanOf};

@@ -1,5 +1,6 @@
 // Keeping a private shelf: a record is put on it or removed, and the new shelf is written to a lent output; the old one stays as it is.
 #![tactic(auto)]
+
 mod change;
 mod spot;
 mod write;

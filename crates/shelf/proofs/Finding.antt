@@ -15,7 +15,7 @@ use Rattle.bits.proofs.Ranges.{below_or, both, either_way, any_none, first_some,
 use Rattle.shelf.specs.Shelf.{count, tenant, profile, record_at, private_shelf, public_shelf}
 use Rattle.shelf.specs.Lookup.{is_entry, has, entry_of, record_of, lookup_number, lookup_record, into, lookup_place}
 use Rattle.shelf.specs.Steps.Walking.{pair, PairsRise}
-use Rattle.shelf.specs.Steps.Finding.{Parted, refusal, entry-is_found, stretch_of, place_of, Looked}
+use Rattle.shelf.specs.Steps.Finding.{Parted, refusal, entry_found, stretch_of, place_of, Looked}
 use Rattle.shelf.proofs.WellFormed.{Formed, formed-is, record_within, profile-small}
 
 -- ---- half of what is left falls away

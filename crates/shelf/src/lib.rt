@@ -1,5 +1,6 @@
 // Shelves: the record that a tenant is given, and the hosted calls, which look it up first. Coding and checking are known by their promises only.
 #![tactic(auto)]
+
 pub mod inner;
 
 ghost use Rattle.std.specs.Prelude.{◌≡◌};
