@@ -16,7 +16,7 @@ use Rattle.profile.specs.Record.{kb, m, x, kind, t, z, offset, rows, columns, ta
 use Rattle.profile.specs.Staircase.{staircases}
 use Rattle.profile.specs.Promises.{judged}
 use Rattle.profile.specs.Steps.Shape.{front_right, size_right, shape_right}
-use Rattle.profile.proofs.Shape.{rows_is, columns_is, area-is, Header, header_is, size-third, shape-third, shape_is, table-long, formed-is}
+use Rattle.profile.proofs.Shape.{rows_is, area-is, Header, header_is, size-third, shape-third, shape_is, table-long, formed-is}
 use Rattle.rules.specs.declared.pairs.Sizes.{Sizes}
 use Rattle.rules.specs.Rules.{or_else, first_not, linked, header_rules, pair_rules, form_rules, table_rule, stairs, stair_rule, record_rule, number_of}
 use Rattle.rules.specs.Steps.Sizes.{SizesOf}

@@ -1,5 +1,6 @@
 // Which rule of document 01 a shelf or a profile record breaks first, and where: numbers and places, to which the desk puts the words.
 #![tactic(auto)]
+
 mod entries;
 mod pairs;
 pub mod record_rule;

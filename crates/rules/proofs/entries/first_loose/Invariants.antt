@@ -1,0 +1,12 @@
+-- The loop's invariant: every entry passed is right.
+use mathlib.Core.Path.{◌≡◌}
+use mathlib.Core.Bool.{true}
+use Prim.Native.Nat.{ℕ, ◌-◌, ◌≤◌, ◌<◌}
+use Rattle.shelf.specs.Shelf.{chained}
+use Rattle.rules.proofs.entries.first_loose.Given as goal
+
+abbrev pub invariant-loop-k : goal.invariant-loop-k
+invariant-loop-k l = (l.k ≤ l.count) × ((j : ℕ) → j < l.k → chained l.octets j ≡ true)
+
+abbrev pub decreases-loop-k : goal.decreases-loop-k
+decreases-loop-k l = l.count - l.k

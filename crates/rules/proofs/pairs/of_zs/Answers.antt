@@ -1,0 +1,111 @@
+use mathlib.Core.Path.{◌≡◌, refl}
+use mathlib.Core.Bool.{Bool, true, false}
+use Prim.Native.Nat.{ℕ, ◌+◌, ◌*◌}
+use native.Mathlib.Omega.{arith}
+use lib.ListN.{length}
+use borrow.Author.Tests.{lt-ltb, le-ltb}
+use Rattle.bits.specs.Numbers.{answered}
+use Rattle.bits.specs.Ranges.{all_below, within}
+use Rattle.profile.specs.Record.{t, z, rises}
+use Rattle.rules.specs.Rules.{or_else, first_not}
+use Rattle.rules.specs.Places.{place_of, table_row, table_column, record_table, record_row, record_column, record_at}
+use Rattle.rules.proofs.Firsts.{first-some-not, first-all}
+use Rattle.rules.proofs.Records.{small}
+use Rattle.rules.proofs.pairs.of_zs.Goals as goal
+
+pub overflow_mul-t : goal.overflow_mul-t
+overflow_mul-t c =
+    let a = c.args in
+    let R = a.octets.now in
+    omega (arith, (small R c.requires).few)
+
+pub overflow_add-t : goal.overflow_add-t
+overflow_add-t c =
+    let a = c.args in
+    let R = a.octets.now in
+    omega (arith, (small R c.requires).few)
+
+pub returns-then-size-t : goal.returns-then-size-t
+unfolding answered or_else place_of table_row table_column record_table record_row record_column record_at
+returns-then-size-t c =
+    let a = c.args in
+    let R = a.octets.now in
+    record {
+      first = rw (lt-ltb (length R) (10 + 4 * t R) (omega (arith, c.requires.t_is)));
+      table_is = refl;
+      row_is = refl;
+      column_is = refl;
+      at_is = refl;
+      inside = omega arith;
+    }
+
+pub returns-then-out-t : goal.returns-then-out-t
+unfolding answered or_else place_of table_row table_column record_table record_row record_column record_at
+returns-then-out-t c =
+    let a = c.args in
+    let R = a.octets.now in
+    let n = c.requires in
+    let room = le-ltb (length R) (10 + 4 * t R) (omega (arith, n.t_is)) in
+    let ranges : ℕ → Bool = λ i. within 1 81 (z R i) in
+    let some : all_below (t R) ranges ≡ false = rw (← n.t_is) (first-some-not a.s.t ranges c.first_out-out.ensures c.if-out-t.true) in
+    let is : c.first_out-out.result ≡ first_not (t R) ranges = rw (← n.t_is) c.first_out-out.ensures in
+    record {
+      first = rw (room, some);
+      table_is = is;
+      row_is = refl;
+      column_is = refl;
+      at_is = omega (arith, is);
+      inside = omega arith;
+    }
+
+pub returns-then-fallen-t : goal.returns-then-fallen-t
+unfolding answered or_else place_of table_row table_column record_table record_row record_column record_at
+returns-then-fallen-t c =
+    let a = c.args in
+    let R = a.octets.now in
+    let n = c.requires in
+    let room = le-ltb (length R) (10 + 4 * t R) (omega (arith, n.t_is)) in
+    let ranges : ℕ → Bool = λ i. within 1 81 (z R i) in
+    let all : all_below (t R) ranges ≡ true = rw (← n.t_is) (first-all a.s.t ranges c.first_out-out.ensures (omega arith)) in
+    let some : all_below (t R) (rises R) ≡ false = rw (← n.t_is) (first-some-not a.s.t (rises R) c.first_fall-fallen.ensures c.if-fallen-t.true) in
+    let is : c.first_fall-fallen.result ≡ first_not (t R) (rises R) = rw (← n.t_is) c.first_fall-fallen.ensures in
+    record {
+      first = rw (room, all, some);
+      table_is = is;
+      row_is = refl;
+      column_is = refl;
+      at_is = omega (arith, is);
+      inside = omega arith;
+    }
+
+pub of_offsets-requires : goal.of_offsets-requires
+of_offsets-requires c =
+    let a = c.args in
+    let R = a.octets.now in
+    let n = c.requires in
+    let ranges : ℕ → Bool = λ i. within 1 81 (z R i) in
+    record {
+      pairs = record { sizes = n; room = omega arith };
+      range = rw (← n.t_is) (first-all a.s.t ranges c.first_out-out.ensures (omega arith));
+      rising = rw (← n.t_is) (first-all a.s.t (rises R) c.first_fall-fallen.ensures (omega arith));
+    }
+
+pub returns : goal.returns
+unfolding answered or_else
+returns c =
+    let a = c.args in
+    let R = a.octets.now in
+    let n = c.requires in
+    let room = le-ltb (length R) (10 + 4 * t R) (omega (arith, n.t_is)) in
+    let ranges : ℕ → Bool = λ i. within 1 81 (z R i) in
+    let all : all_below (t R) ranges ≡ true = rw (← n.t_is) (first-all a.s.t ranges c.first_out-out.ensures (omega arith)) in
+    let up : all_below (t R) (rises R) ≡ true = rw (← n.t_is) (first-all a.s.t (rises R) c.first_fall-fallen.ensures (omega arith)) in
+    let told = c.of_offsets.ensures in
+    record {
+      first = rw (room, all, up) told.first;
+      table_is = told.table_is;
+      row_is = told.row_is;
+      column_is = told.column_is;
+      at_is = told.at_is;
+      inside = told.inside;
+    }
