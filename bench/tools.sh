@@ -15,7 +15,7 @@ fail() {
 
 rt=$(command -v rt) || fail "the command rt of the Rattle kit is not there; README.md says which kit is needed"
 kit=$(dirname "$(dirname "$(readlink -f "$rt")")")
-own=$kit/on/$machine
+own=$kit
 clang=$own/toolchain/bin/clang
 [ -x "$clang" ] || fail "the kit has no compiler for this machine ($machine)"
 

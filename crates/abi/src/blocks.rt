@@ -9,44 +9,25 @@ use bits::count::CodedBits;
 use bits::number::Written;
 use checking::Verdict;
 
-#[unsafe(no_mangle)]
-pub extern "C" fn kuambyte_code_block(
-    profile: &[u8],
-    z: usize,
-    places: &[u8],
-    out: &mut [u8],
-) -> Written
+pub fn kuambyte_code_block(profile: &[u8], z: usize, places: &[u8], out: &mut [u8]) -> Written
     ensures { BlockCoded profile.now z places.now out.old result out.new }
 {
     parity::code_block(profile, z, places, out)
 }
 
-#[unsafe(no_mangle)]
-pub extern "C" fn kuambyte_check_word(
-    profile: &[u8],
-    z: usize,
-    word: &[u8],
-    checker: u32,
-) -> Verdict
+pub fn kuambyte_check_word(profile: &[u8], z: usize, word: &[u8], checker: u32) -> Verdict
     ensures { WordChecked profile.now z word.now result }
 {
     checking::check_word(profile, z, word, checker::of(checker))
 }
 
-#[unsafe(no_mangle)]
-pub extern "C" fn kuambyte_row_sums(
-    profile: &[u8],
-    z: usize,
-    word: &[u8],
-    out: &mut [u8],
-) -> Written
+pub fn kuambyte_row_sums(profile: &[u8], z: usize, word: &[u8], out: &mut [u8]) -> Written
     ensures { RowsSummed profile.now z word.now out.old result out.new }
 {
     checking::row_sums(profile, z, word, out)
 }
 
-#[unsafe(no_mangle)]
-pub extern "C" fn kuambyte_rate_match(
+pub fn kuambyte_rate_match(
     coded: &[u8],
     kind: usize,
     rv: usize,

@@ -2,9 +2,9 @@
 // decided here: each function answers what the call below promises. include/kuambyte.h says it to C, rust/kuambyte to Rust.
 #![tactic(auto)]
 
-mod blocks;
-mod control_words;
-mod records;
-mod shelves;
-mod sums;
-mod transport;
+pub mod blocks;
+pub mod control_words;
+pub mod records;
+pub mod shelves;
+pub mod sums;
+pub mod transport;

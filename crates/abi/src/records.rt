@@ -10,29 +10,25 @@ use bits::count::Terms;
 use cutting::Plan;
 use rules::Wrong;
 
-#[unsafe(no_mangle)]
-pub extern "C" fn kuambyte_judge(profile: &[u8]) -> u32
+pub fn kuambyte_judge(profile: &[u8]) -> u32
     ensures { result ≡ judged profile.now }
 {
     profile::judge(profile)
 }
 
-#[unsafe(no_mangle)]
-pub extern "C" fn kuambyte_rule_of_record(octets: &[u8]) -> Wrong
+pub fn kuambyte_rule_of_record(octets: &[u8]) -> Wrong
     ensures { RecordRule octets.now result }
 {
     rules::of_record(octets)
 }
 
-#[unsafe(no_mangle)]
-pub extern "C" fn kuambyte_plan_block(profile: &[u8], edition: usize, octets: usize) -> Plan
+pub fn kuambyte_plan_block(profile: &[u8], edition: usize, octets: usize) -> Plan
     ensures { result ≡ planned profile.now edition octets }
 {
     cutting::plan_block(profile, edition, octets)
 }
 
-#[unsafe(no_mangle)]
-pub extern "C" fn kuambyte_least_bits(profile: &[u8], octets: usize, terms: Terms) -> Least
+pub fn kuambyte_least_bits(profile: &[u8], octets: usize, terms: Terms) -> Least
     ensures { LeastRoom profile.now octets terms result }
 {
     advice::least_bits(profile, octets, terms)

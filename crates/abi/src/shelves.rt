@@ -47,13 +47,7 @@ fn shelf_number(own: bool) -> u32
     PUBLIC
 }
 
-#[unsafe(no_mangle)]
-pub extern "C" fn kuambyte_lookup_number(
-    private: &[u8],
-    public: &[u8],
-    tenant: usize,
-    profile: usize,
-) -> u32
+pub fn kuambyte_lookup_number(private: &[u8], public: &[u8], tenant: usize, profile: usize) -> u32
     ensures { Held tenant profile (result ≡ 4) (result ≡ lookup_number private.now public.now tenant profile) }
 {
     if too_large(tenant, profile) {
@@ -75,13 +69,7 @@ fn stretch_of(private: &[u8], public: &[u8], tenant: u16, profile: u16) -> Stret
     }
 }
 
-#[unsafe(no_mangle)]
-pub extern "C" fn kuambyte_lookup(
-    private: &[u8],
-    public: &[u8],
-    tenant: usize,
-    profile: usize,
-) -> Stretch
+pub fn kuambyte_lookup(private: &[u8], public: &[u8], tenant: usize, profile: usize) -> Stretch
     ensures { Held tenant profile (result ≡ refused_with 4) (LookedUpAt private.now public.now tenant profile result) }
 {
     if too_large(tenant, profile) {
@@ -96,8 +84,7 @@ pub extern "C" fn kuambyte_lookup(
 }
 
 // An entry of a shelf has no room for a larger number.
-#[unsafe(no_mangle)]
-pub extern "C" fn kuambyte_put_record(
+pub fn kuambyte_put_record(
     private: &[u8],
     tenant: usize,
     profile: usize,
@@ -115,8 +102,7 @@ pub extern "C" fn kuambyte_put_record(
     keeping::put_record(private, tenant as u16, profile as u16, octets, out)
 }
 
-#[unsafe(no_mangle)]
-pub extern "C" fn kuambyte_remove_record(
+pub fn kuambyte_remove_record(
     private: &[u8],
     tenant: usize,
     profile: usize,
@@ -133,8 +119,7 @@ pub extern "C" fn kuambyte_remove_record(
     keeping::remove_record(private, tenant as u16, profile as u16, out)
 }
 
-#[unsafe(no_mangle)]
-pub extern "C" fn kuambyte_rule_of_shelf(shelf: u32, octets: &[u8]) -> Broken
+pub fn kuambyte_rule_of_shelf(shelf: u32, octets: &[u8]) -> Broken
     ensures { ShelfRule (not (eqb shelf 0)) octets.now result }
 {
     rules::of_shelf(shelf != PUBLIC, octets)

@@ -7,48 +7,37 @@ use bits::number::Written;
 use checksum::Sum;
 use masked::Tested;
 
-#[unsafe(no_mangle)]
-pub extern "C" fn kuambyte_checksum_of_bits(width: usize, bits: &[u8]) -> Sum
+pub fn kuambyte_checksum_of_bits(width: usize, bits: &[u8]) -> Sum
     ensures { OfBits width bits.now result }
 {
     checksum::of_bits(width, bits)
 }
 
-#[unsafe(no_mangle)]
-pub extern "C" fn kuambyte_checksum_of_octets(width: usize, octets: &[u8]) -> Sum
+pub fn kuambyte_checksum_of_octets(width: usize, octets: &[u8]) -> Sum
     ensures { OfOctets width octets.now result }
 {
     checksum::of_octets(width, octets)
 }
 
-#[unsafe(no_mangle)]
-pub extern "C" fn kuambyte_checksum_of_block_bits(bits: &[u8]) -> Sum
+pub fn kuambyte_checksum_of_block_bits(bits: &[u8]) -> Sum
     ensures { OfBlockBits bits.now result }
 {
     blocksum::of_block_bits(bits)
 }
 
-#[unsafe(no_mangle)]
-pub extern "C" fn kuambyte_sum_under(width: usize, mask: u64, bits: &[u8]) -> Sum
+pub fn kuambyte_sum_under(width: usize, mask: u64, bits: &[u8]) -> Sum
     ensures { SumUnder width mask bits.now result }
 {
     masked::sum_under(width, mask, bits)
 }
 
-#[unsafe(no_mangle)]
-pub extern "C" fn kuambyte_append_under(
-    width: usize,
-    mask: u64,
-    bits: &[u8],
-    out: &mut [u8],
-) -> Written
+pub fn kuambyte_append_under(width: usize, mask: u64, bits: &[u8], out: &mut [u8]) -> Written
     ensures { Appended width mask bits.now out.old result out.new }
 {
     masked::append(width, mask, bits, out)
 }
 
-#[unsafe(no_mangle)]
-pub extern "C" fn kuambyte_test_under(width: usize, mask: u64, word: &[u8]) -> Tested
+pub fn kuambyte_test_under(width: usize, mask: u64, word: &[u8]) -> Tested
     ensures { WordTested width mask word.now result }
 {
     masked::test(width, mask, word)

@@ -10,8 +10,7 @@ use bits::count::{CodedBits, Terms};
 use bits::number::{NO_RECORD, Written};
 use checking::Verdict;
 
-#[unsafe(no_mangle)]
-pub extern "C" fn kuambyte_send(
+pub fn kuambyte_send(
     profile: &[u8],
     block: &[u8],
     terms: Terms,
@@ -23,8 +22,7 @@ pub extern "C" fn kuambyte_send(
     coding::send(profile, block, terms, CodedBits(g), out)
 }
 
-#[unsafe(no_mangle)]
-pub extern "C" fn kuambyte_receive(
+pub fn kuambyte_receive(
     profile: &[u8],
     a: usize,
     terms: Terms,
@@ -37,8 +35,7 @@ pub extern "C" fn kuambyte_receive(
     coding::receive(profile, a, terms, bits, checker::of(checker), out)
 }
 
-#[unsafe(no_mangle)]
-pub extern "C" fn kuambyte_hosted_send<'a>(
+pub fn kuambyte_hosted_send<'a>(
     private: &'a [u8],
     public: &'a [u8],
     tenant: usize,
@@ -68,8 +65,7 @@ pub extern "C" fn kuambyte_hosted_send<'a>(
     )
 }
 
-#[unsafe(no_mangle)]
-pub extern "C" fn kuambyte_hosted_receive<'a>(
+pub fn kuambyte_hosted_receive<'a>(
     private: &'a [u8],
     public: &'a [u8],
     tenant: usize,
@@ -101,8 +97,7 @@ pub extern "C" fn kuambyte_hosted_receive<'a>(
     )
 }
 
-#[unsafe(no_mangle)]
-pub extern "C" fn kuambyte_hosted_check<'a>(
+pub fn kuambyte_hosted_check<'a>(
     private: &'a [u8],
     public: &'a [u8],
     tenant: usize,

@@ -1,0 +1,56 @@
+// One code block: coded, checked and rate-matched.
+ghost use Rattle.parity.specs.Promises.{BlockCoded};
+ghost use Rattle.checking.specs.Promises.{WordChecked, RowsSummed};
+ghost use Rattle.matching.specs.Promises.{RateMatched};
+
+use bits::number::Written;
+use checking::Verdict;
+
+#[unsafe(no_mangle)]
+pub extern "C" fn kuambyte_code_block(
+    profile: &[u8],
+    z: usize,
+    places: &[u8],
+    out: &mut [u8],
+) -> Written
+    ensures { BlockCoded profile.now z places.now out.old result out.new }
+{
+    abi::blocks::kuambyte_code_block(profile, z, places, out)
+}
+
+#[unsafe(no_mangle)]
+pub extern "C" fn kuambyte_check_word(
+    profile: &[u8],
+    z: usize,
+    word: &[u8],
+    checker: u32,
+) -> Verdict
+    ensures { WordChecked profile.now z word.now result }
+{
+    abi::blocks::kuambyte_check_word(profile, z, word, checker)
+}
+
+#[unsafe(no_mangle)]
+pub extern "C" fn kuambyte_row_sums(
+    profile: &[u8],
+    z: usize,
+    word: &[u8],
+    out: &mut [u8],
+) -> Written
+    ensures { RowsSummed profile.now z word.now out.old result out.new }
+{
+    abi::blocks::kuambyte_row_sums(profile, z, word, out)
+}
+
+#[unsafe(no_mangle)]
+pub extern "C" fn kuambyte_rate_match(
+    coded: &[u8],
+    kind: usize,
+    rv: usize,
+    e: usize,
+    out: &mut [u8],
+) -> Written
+    ensures { RateMatched coded.now kind rv e out.old result out.new }
+{
+    abi::blocks::kuambyte_rate_match(coded, kind, rv, e, out)
+}

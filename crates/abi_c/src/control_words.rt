@@ -1,0 +1,46 @@
+// Control words: coded, sent, taken back to their streams, and the nearest of them.
+ghost use Rattle.control.specs.Promises.{WordCoded, StreamsMatched, WordSent, StreamsFound};
+ghost use Rattle.nearest.specs.Promises.{WordFound};
+
+use bits::number::Written;
+use nearest::Closest;
+
+#[unsafe(no_mangle)]
+pub extern "C" fn kuambyte_code_word(word: &[u8], out: &mut [u8]) -> Written
+    ensures { WordCoded word.now out.old result out.new }
+{
+    abi::control_words::kuambyte_code_word(word, out)
+}
+
+#[unsafe(no_mangle)]
+pub extern "C" fn kuambyte_match_streams(
+    d: usize,
+    streams: &[u8],
+    e: usize,
+    out: &mut [u8],
+) -> Written
+    ensures { StreamsMatched d streams.now e out.old result out.new }
+{
+    abi::control_words::kuambyte_match_streams(d, streams, e, out)
+}
+
+#[unsafe(no_mangle)]
+pub extern "C" fn kuambyte_send_word(word: &[u8], e: usize, out: &mut [u8]) -> Written
+    ensures { WordSent word.now e out.old result out.new }
+{
+    abi::control_words::kuambyte_send_word(word, e, out)
+}
+
+#[unsafe(no_mangle)]
+pub extern "C" fn kuambyte_streams_of(d: usize, bits: &[u8], out: &mut [u8]) -> Written
+    ensures { StreamsFound d bits.now out.old result out.new }
+{
+    abi::control_words::kuambyte_streams_of(d, bits, out)
+}
+
+#[unsafe(no_mangle)]
+pub extern "C" fn kuambyte_nearest_word(d: usize, heard: &[u8], out: &mut [u8]) -> Closest
+    ensures { WordFound d heard.now out.old result out.new }
+{
+    abi::control_words::kuambyte_nearest_word(d, heard, out)
+}

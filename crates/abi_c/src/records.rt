@@ -1,0 +1,39 @@
+// Profile records: judged, asked which rule they break, and how a transport block is cut with one.
+ghost use Rattle.std.specs.Prelude.{◌≡◌};
+ghost use Rattle.profile.specs.Promises.{judged};
+ghost use Rattle.rules.specs.Promises.{RecordRule};
+ghost use Rattle.cutting.specs.Promises.{planned};
+ghost use Rattle.advice.specs.Promises.{LeastRoom};
+
+use advice::Least;
+use bits::count::Terms;
+use cutting::Plan;
+use rules::Wrong;
+
+#[unsafe(no_mangle)]
+pub extern "C" fn kuambyte_judge(profile: &[u8]) -> u32
+    ensures { result ≡ judged profile.now }
+{
+    abi::records::kuambyte_judge(profile)
+}
+
+#[unsafe(no_mangle)]
+pub extern "C" fn kuambyte_rule_of_record(octets: &[u8]) -> Wrong
+    ensures { RecordRule octets.now result }
+{
+    abi::records::kuambyte_rule_of_record(octets)
+}
+
+#[unsafe(no_mangle)]
+pub extern "C" fn kuambyte_plan_block(profile: &[u8], edition: usize, octets: usize) -> Plan
+    ensures { result ≡ planned profile.now edition octets }
+{
+    abi::records::kuambyte_plan_block(profile, edition, octets)
+}
+
+#[unsafe(no_mangle)]
+pub extern "C" fn kuambyte_least_bits(profile: &[u8], octets: usize, terms: Terms) -> Least
+    ensures { LeastRoom profile.now octets terms result }
+{
+    abi::records::kuambyte_least_bits(profile, octets, terms)
+}
