@@ -70,5 +70,5 @@ uninstall:
 	rm -rf '$(DESTDIR)$(LIBEXECDIR)/kuambyte' '$(DESTDIR)$(OWN)' '$(DESTDIR)$(DOCS)' '$(DESTDIR)$(CRATE)'
 
 .PHONY: all program library help staged install uninstall
-# Both builds write the kit's folder target/.
+# Both builds write the folders out/ of crates that they share.
 .NOTPARALLEL:

@@ -1,13 +1,15 @@
 // The words of the command line: those behind the command, in their order or by their names, the options among them, and the numbers that they hold.
-ghost use Rattle.std.specs.Prelude.{◌≤◌, ◌<◌};
+ghost use Rattle.std.specs.Prelude.{◌≤◌, ◌<◌, length};
 
+use crate::errors::Errors;
 use crate::{list, page};
-use libc::STDERR_FILENO;
+use std::env::FillError;
+use std::rt::Env;
 use text::values::Parsed;
 use text::{octets, values};
 
 // What stands behind the command. Options may stand anywhere among the words and are no words.
-#[derive(Drop)]
+#[derive(Clone, Copy)]
 pub struct Words {
     // Whether --help is given.
     pub help: bool,
@@ -17,12 +19,40 @@ pub struct Words {
     pub svg: bool,
 }
 
-pub fn all_words() -> Words {
+// How many words the command line has, the name of the program among them.
+pub fn count(rt: &impl Env) -> usize {
+    for i in 0..usize::MAX {
+        if is_missing(rt, i) {
+            return i;
+        }
+    }
+    usize::MAX
+}
+
+fn is_missing(rt: &impl Env, i: usize) -> bool {
+    let mut start = [0u8; 1];
+    match rt.arg(i, &mut start) {
+        Err(FillError::NotPresent) => true,
+        _ => false,
+    }
+}
+
+// Puts the word at place i at the start of `word` and answers its length, or 0 where there is none or it is longer.
+pub fn read(rt: &impl Env, i: usize, word: &mut [u8]) -> usize
+    ensures { result ≤ length word.new }
+{
+    match rt.arg(i, word) {
+        Ok(n) => n,
+        Err(_) => 0,
+    }
+}
+
+pub fn all_words(rt: &impl Env) -> Words {
     Words {
-        help: is_given(b"--help"),
-        text: is_given(b"--text"),
-        plain: is_given(b"--plain"),
-        svg: is_given(b"--svg"),
+        help: is_given(rt, b"--help"),
+        text: is_given(rt, b"--text"),
+        plain: is_given(rt, b"--plain"),
+        svg: is_given(rt, b"--svg"),
     }
 }
 
@@ -70,11 +100,11 @@ fn width(word: &[u8]) -> usize
 }
 
 // How far the next word or option stands behind place i: an option that has a value has it behind it.
-fn step(i: usize) -> usize
+fn step(rt: &impl Env, i: usize) -> usize
     ensures { (1 ≤ result) × (result ≤ 2) }
 {
     let mut word = io::buffer();
-    let n = os::arg(i, &mut word);
+    let n = read(rt, i, &mut word);
     if width(&word[..n]) == 2 {
         return 2;
     }
@@ -82,11 +112,11 @@ fn step(i: usize) -> usize
 }
 
 // The place behind what stands at place i, but not behind the end.
-fn past(i: usize, end: usize) -> usize
+fn past(rt: &impl Env, i: usize, end: usize) -> usize
     requires { i < end }
     ensures { (i < result) × (result ≤ end) }
 {
-    let n = step(i);
+    let n = step(rt, i);
     if n > end - i {
         return end;
     }
@@ -94,43 +124,43 @@ fn past(i: usize, end: usize) -> usize
 }
 
 // Where an option stands on the command line, counted from the program's name, or the end where it is not given. Its value stands behind it.
-pub fn find(option: &[u8]) -> usize {
-    let end = os::arg_count();
+pub fn find(rt: &impl Env, option: &[u8]) -> usize {
+    let end = count(rt);
     let mut i = 2;
     while i < end {
-        if is_word(i, option) {
+        if is_word(rt, i, option) {
             return i;
         }
-        i = past(i, end);
+        i = past(rt, i, end);
     }
     i
 }
 
-pub fn is_given(option: &[u8]) -> bool {
-    find(option) < os::arg_count()
+pub fn is_given(rt: &impl Env, option: &[u8]) -> bool {
+    find(rt, option) < count(rt)
 }
 
-fn is_word(i: usize, what: &[u8]) -> bool {
+fn is_word(rt: &impl Env, i: usize, what: &[u8]) -> bool {
     let mut word = io::buffer();
-    let n = os::arg(i, &mut word);
+    let n = read(rt, i, &mut word);
     octets::same(&word[..n], what)
 }
 
 // Whether an option stands at a place.
-fn is_option(i: usize) -> bool {
+fn is_option(rt: &impl Env, i: usize) -> bool {
     let mut word = io::buffer();
-    let n = os::arg(i, &mut word);
+    let n = read(rt, i, &mut word);
     width(&word[..n]) > 0
 }
 
 // Where word k behind the command stands, names and options not counted, or the end where there are not so many.
-fn nth(k: usize) -> usize {
-    let end = os::arg_count();
+fn nth(rt: &impl Env, k: usize) -> usize {
+    let end = count(rt);
     let mut left = k;
     let mut i = 2;
     while i < end {
-        if is_option(i) {
-            i = past(i, end);
+        if is_option(rt, i) {
+            i = past(rt, i, end);
             continue;
         }
         if left == 0 {
@@ -144,30 +174,30 @@ fn nth(k: usize) -> usize {
 
 // Where the word with this name stands, or the end where it is not given: behind its name or, among those that have none, in its turn. `names` has the names
 // of all words of a command in their order.
-pub fn place(names: &[u8], name: &[u8]) -> usize {
-    let end = os::arg_count();
-    let at = find(name);
+pub fn place(rt: &impl Env, names: &[u8], name: &[u8]) -> usize {
+    let end = count(rt);
+    let at = find(rt, name);
     if at < end {
         return at + 1;
     }
-    nth(without_name(names, list::find(names, name)))
+    nth(rt, without_name(rt, names, list::find(names, name)))
 }
 
 // How many of the first k words have to be given without their names, since they are not given by name.
-fn without_name(names: &[u8], k: usize) -> usize {
+fn without_name(rt: &impl Env, names: &[u8], k: usize) -> usize {
     let mut n = 0;
     let mut j = 0;
     while j < k {
-        n += one_without(list::line(names, j));
+        n += one_without(rt, list::line(names, j));
         j += 1;
     }
     n
 }
 
-fn one_without(name: &[u8]) -> usize
+fn one_without(rt: &impl Env, name: &[u8]) -> usize
     ensures { result ≤ 1 }
 {
-    if is_given(name) {
+    if is_given(rt, name) {
         return 0;
     }
     1
@@ -175,61 +205,61 @@ fn one_without(name: &[u8]) -> usize
 
 // Whether the words and options are those of a command: its words by their names, of which the first so many are needed, and its options. What is wrong is
 // said on standard error.
-pub fn fits(names: &[u8], needed: usize, options: &[u8]) -> bool {
-    if !are_known(names, options) {
+pub fn fits(rt: &(impl Env + Errors), names: &[u8], needed: usize, options: &[u8]) -> bool {
+    if !are_known(rt, names, options) {
         return false;
     }
-    if !are_enough(names, needed) {
+    if !are_enough(rt, names, needed) {
         return false;
     }
-    let end = os::arg_count();
-    let more = nth(without_name(names, list::count(names)));
+    let end = count(rt);
+    let more = nth(rt, without_name(rt, names, list::count(names)));
     if more < end {
-        return wrong(b"'", more, b"' is a word too many");
+        return wrong(rt, b"'", more, b"' is a word too many");
     }
     true
 }
 
-fn are_known(names: &[u8], options: &[u8]) -> bool {
-    let end = os::arg_count();
+fn are_known(rt: &(impl Env + Errors), names: &[u8], options: &[u8]) -> bool {
+    let end = count(rt);
     let mut i = 2;
     while i < end {
-        if !is_known(i, end, names, options) {
+        if !is_known(rt, i, end, names, options) {
             return false;
         }
-        i = past(i, end);
+        i = past(rt, i, end);
     }
     true
 }
 
 // Whether what stands at place i may stand there: a word, or an option that the command takes, once and with its value.
-fn is_known(i: usize, end: usize, names: &[u8], options: &[u8]) -> bool
+fn is_known(rt: &(impl Env + Errors), i: usize, end: usize, names: &[u8], options: &[u8]) -> bool
     requires { i < end }
 {
     let mut word = io::buffer();
-    let n = os::arg(i, &mut word);
+    let n = read(rt, i, &mut word);
     let wide = width(&word[..n]);
     if wide == 0 {
-        return is_no_option(i, &word[..n]);
+        return is_no_option(rt, i, &word[..n]);
     }
     if !is_taken(&word[..n], names, options) {
-        return wrong(b"this command takes no ", i, b"");
+        return wrong(rt, b"this command takes no ", i, b"");
     }
-    if find(&word[..n]) < i {
-        return wrong(b"", i, b" is given twice");
+    if find(rt, &word[..n]) < i {
+        return wrong(rt, b"", i, b" is given twice");
     }
     if wide > end - i {
-        return wrong(b"nothing stands behind ", i, b"");
+        return wrong(rt, b"nothing stands behind ", i, b"");
     }
     true
 }
 
-fn is_no_option(i: usize, word: &[u8]) -> bool {
+fn is_no_option(rt: &(impl Env + Errors), i: usize, word: &[u8]) -> bool {
     if word.len() < 2 {
         return true;
     }
     if octets::same(&word[0..2], b"--") {
-        return wrong(b"there is no option ", i, b"");
+        return wrong(rt, b"there is no option ", i, b"");
     }
     true
 }
@@ -242,39 +272,39 @@ fn is_taken(word: &[u8], names: &[u8], options: &[u8]) -> bool {
 }
 
 // Whether the first so many words of a command are given.
-fn are_enough(names: &[u8], needed: usize) -> bool {
+fn are_enough(rt: &(impl Env + Errors), names: &[u8], needed: usize) -> bool {
     let mut k = 0;
     while k < needed {
-        if place(names, list::line(names, k)) >= os::arg_count() {
-            return missing(list::line(names, k));
+        if place(rt, names, list::line(names, k)) >= count(rt) {
+            return missing(rt, list::line(names, k));
         }
         k += 1;
     }
     true
 }
 
-fn missing(name: &[u8]) -> bool {
+fn missing(rt: &impl Errors, name: &[u8]) -> bool {
     let mut line = io::buffer();
     let a = page::put(b"kuambyte: ", &mut line, 0);
     let b = put_label(name, &mut line, a);
     let c = page::put(b" is missing; it may be given as ", &mut line, b);
     let d = page::put(name, &mut line, c);
     let e = page::put(b" too\n", &mut line, d);
-    io::write_all(STDERR_FILENO, octets::first(&line, e));
+    rt.say(octets::first(&line, e));
     false
 }
 
 // Says what is wrong with what stands at place i.
-fn wrong(before: &[u8], i: usize, behind: &[u8]) -> bool {
+fn wrong(rt: &(impl Env + Errors), before: &[u8], i: usize, behind: &[u8]) -> bool {
     let mut word = io::buffer();
-    let n = os::arg(i, &mut word);
+    let n = read(rt, i, &mut word);
     let mut line = io::buffer();
     let a = page::put(b"kuambyte: ", &mut line, 0);
     let b = page::put(before, &mut line, a);
     let c = page::put(octets::first(&word[..n], 100), &mut line, b);
     let d = page::put(behind, &mut line, c);
     let e = page::put(b"\n", &mut line, d);
-    io::write_all(STDERR_FILENO, octets::first(&line, e));
+    rt.say(octets::first(&line, e));
     false
 }
 
@@ -304,32 +334,44 @@ pub struct Number {
 }
 
 // The number that the word with this name holds, from 0 to `most`.
-pub fn read_number(names: &[u8], name: &[u8], most: usize) -> Number
+pub fn read_number(rt: &(impl Env + Errors), names: &[u8], name: &[u8], most: usize) -> Number
     ensures { result.value ≤ most }
 {
     let mut label = io::buffer();
     let n = put_label(name, &mut label, 0);
     let mut word = io::buffer();
-    let m = os::arg(place(names, name), &mut word);
-    named(&word[..m], octets::first(&label, n), most)
+    let m = read(rt, place(rt, names, name), &mut word);
+    named(rt, &word[..m], octets::first(&label, n), most)
 }
 
 // The same, or this number where the word is not given.
-pub fn read_or(names: &[u8], name: &[u8], most: usize, otherwise: usize) -> Number {
-    let at = place(names, name);
-    if at >= os::arg_count() {
+pub fn read_or(
+    rt: &(impl Env + Errors),
+    names: &[u8],
+    name: &[u8],
+    most: usize,
+    otherwise: usize,
+) -> Number {
+    let at = place(rt, names, name);
+    if at >= count(rt) {
         return Number {
             value: otherwise,
             bad: false,
         };
     }
-    read_number(names, name, most)
+    read_number(rt, names, name, most)
 }
 
 // The number that stands behind an option, from 0 to `most`, or this one where the option is not given.
-pub fn read_option(option: &[u8], name: &[u8], most: usize, otherwise: usize) -> Number {
-    let end = os::arg_count();
-    let at = find(option);
+pub fn read_option(
+    rt: &(impl Env + Errors),
+    option: &[u8],
+    name: &[u8],
+    most: usize,
+    otherwise: usize,
+) -> Number {
+    let end = count(rt);
+    let at = find(rt, option);
     if at >= end {
         return Number {
             value: otherwise,
@@ -337,17 +379,17 @@ pub fn read_option(option: &[u8], name: &[u8], most: usize, otherwise: usize) ->
         };
     }
     let mut word = io::buffer();
-    let n = os::arg(at + 1, &mut word);
-    named(&word[..n], name, most)
+    let n = read(rt, at + 1, &mut word);
+    named(rt, &word[..n], name, most)
 }
 
 // The number that a word holds. Another word is named on standard error.
-fn named(word: &[u8], name: &[u8], most: usize) -> Number
+fn named(rt: &impl Errors, word: &[u8], name: &[u8], most: usize) -> Number
     ensures { result.value ≤ most }
 {
     let number = value(word, most);
     if number.bad {
-        complain(word, name, most);
+        complain(rt, word, name, most);
     }
     number
 }
@@ -379,12 +421,12 @@ fn within(n: usize, most: usize) -> Number
     }
 }
 
-fn complain(word: &[u8], name: &[u8], most: usize) {
+fn complain(rt: &impl Errors, word: &[u8], name: &[u8], most: usize) {
     let mut line = io::buffer();
     let a = page::put(b"kuambyte: ", &mut line, 0);
     let b = page::put(name, &mut line, a);
     let c = page::form(b" is a number from 0 to #, and '", &[most], &mut line, b);
     let d = page::put(octets::first(word, 100), &mut line, c);
     let e = page::put(b"' is none\n", &mut line, d);
-    io::write_all(STDERR_FILENO, octets::first(&line, e));
+    rt.say(octets::first(&line, e));
 }

@@ -1,8 +1,12 @@
 // Files: reading one whole, and writing a result.
 ghost use Rattle.std.specs.Prelude.{◌≡◌, ◌<◌, length};
 
-use crate::{argv, beside, page, status};
-use libc::{STDIN_FILENO, STDOUT_FILENO};
+use crate::errors::Errors;
+use crate::{argv, beside, errors, page, status};
+use std::env::FillError;
+use std::io::{Error, Read};
+use std::rt::{Env, Files};
+use std::{fs, str};
 use text::octets;
 
 // What no bit is: a character other than 0 and 1 stands as this, so that it is refused with its number.
@@ -46,49 +50,76 @@ fn failure() -> Taken {
 }
 
 // Reads the file that the word with this name names. Where it cannot be read, the reason is on standard error.
-pub fn named(names: &[u8], name: &[u8], store: &mut [u8]) -> Taken {
+pub fn named(
+    rt: &(impl Env + Files + Errors),
+    names: &[u8],
+    name: &[u8],
+    store: &mut [u8],
+) -> Taken {
     let mut path = io::buffer();
-    let n = os::arg(argv::place(names, name), &mut path);
-    if os::errno() != 0 {
-        os::fail(b"kuambyte: the name of a file");
-        return failure();
+    match rt.arg(argv::place(rt, names, name), &mut path) {
+        Ok(n) => of_path(rt, &path[..n], store),
+        Err(why) => {
+            nameless(rt, why);
+            failure()
+        }
     }
-    of_path(&path[..n], store)
 }
 
-pub fn of_path(path: &[u8], store: &mut [u8]) -> Taken {
-    let fd = os::open_read(path);
-    if fd < 0 {
-        fail(path);
-        return failure();
+// Says that a word which names a file is missing, or longer than any name.
+fn nameless(rt: &impl Errors, why: FillError) {
+    let number = match why {
+        FillError::NotPresent => errors::INVALID,
+        FillError::TooLong => errors::TOO_LONG,
+    };
+    errors::fail(
+        rt,
+        b"kuambyte: the name of a file",
+        &Error::from_raw_os_error(number),
+    );
+}
+
+pub fn of_path(rt: &(impl Files + Errors), path: &[u8], store: &mut [u8]) -> Taken {
+    match str::from_utf8(path) {
+        Ok(name) => of_name(rt, name, store),
+        Err(_) => {
+            fail(rt, path, &Error::from_raw_os_error(errors::NO_TEXT));
+            failure()
+        }
     }
-    let taken = fill(fd, false, store);
-    if taken.failed {
-        fail(path);
+}
+
+fn of_name(rt: &(impl Files + Errors), name: &str, store: &mut [u8]) -> Taken {
+    match fs::open(rt, name) {
+        Ok(mut file) => fill(rt, &mut file, name.as_bytes(), false, store),
+        Err(why) => {
+            fail(rt, name.as_bytes(), &why);
+            failure()
+        }
     }
-    libc::close(fd);
-    taken
 }
 
 // Reads standard input; as text, it has the characters 0 and 1 for bits.
-pub fn input(text: bool, store: &mut [u8]) -> Taken {
-    let taken = fill(STDIN_FILENO, text, store);
-    if taken.failed {
-        fail(b"standard input");
-    }
-    taken
+pub fn input(rt: &(impl Input + Errors), text: bool, store: &mut [u8]) -> Taken {
+    fill(rt, &mut rt.reader(), b"standard input", text, store)
 }
 
-fn fail(name: &[u8]) {
+fn fail(rt: &impl Errors, name: &[u8], why: &Error) {
     let mut line = io::buffer();
     let at = page::put(b"kuambyte: ", &mut line, 0);
     let end = page::put(name, &mut line, at);
-    os::fail(octets::first(&line, end));
+    errors::fail(rt, octets::first(&line, end), why);
 }
 
 // A proved loop has to end, and nothing says that the input does. So the turns are counted down
 // from a number that no run uses up.
-fn fill(fd: i32, text: bool, store: &mut [u8]) -> Taken {
+fn fill(
+    rt: &impl Errors,
+    from: &mut impl Read,
+    name: &[u8],
+    text: bool,
+    store: &mut [u8],
+) -> Taken {
     let mut taken = Taken {
         count: 0,
         failed: false,
@@ -96,7 +127,7 @@ fn fill(fd: i32, text: bool, store: &mut [u8]) -> Taken {
     };
     let mut turns = u64::MAX;
     while turns > 0 {
-        taken = fill_some(fd, text, store, taken.count);
+        taken = fill_some(rt, from, name, text, store, taken.count);
         if taken.done {
             return taken;
         }
@@ -105,21 +136,38 @@ fn fill(fd: i32, text: bool, store: &mut [u8]) -> Taken {
     taken
 }
 
-// Reads once, and keeps what came behind the first `at` octets.
-fn fill_some(fd: i32, text: bool, store: &mut [u8], at: usize) -> Taken {
+// Reads once, and keeps what came behind the first `at` octets. Where that fails, the reason is said.
+fn fill_some(
+    rt: &impl Errors,
+    from: &mut impl Read,
+    name: &[u8],
+    text: bool,
+    store: &mut [u8],
+    at: usize,
+) -> Taken {
     let mut chunk = io::buffer();
-    let got = libc::read(fd, &mut chunk);
-    let n = io::count(got, &chunk);
-    let count = keep(text, &chunk[..n], store, at);
-    Taken {
-        count,
-        failed: got < 0,
-        done: is_last(got, count, store),
+    match from.read(&mut chunk) {
+        Ok(n) => {
+            let count = keep(text, &chunk[..n], store, at);
+            Taken {
+                count,
+                failed: false,
+                done: is_last(n, count, store),
+            }
+        }
+        Err(why) => {
+            fail(rt, name, &why);
+            Taken {
+                count: at,
+                failed: true,
+                done: true,
+            }
+        }
     }
 }
 
-fn is_last(got: isize, count: usize, store: &[u8]) -> bool {
-    if got <= 0 {
+fn is_last(got: usize, count: usize, store: &[u8]) -> bool {
+    if got == 0 {
         return true;
     }
     count == store.len()
@@ -184,26 +232,29 @@ fn spell_one(bits: &mut [u8], i: usize)
 }
 
 // Writes a result, all of it at once, to standard output or to the file that stands behind -o, and answers the exit status.
-pub fn write(res: &[u8]) -> i32 {
-    let end = os::arg_count();
-    let at = argv::find(b"-o");
+pub fn write(rt: &(impl Env + Files + Print + Errors), res: &[u8]) -> i32 {
+    let end = argv::count(rt);
+    let at = argv::find(rt, b"-o");
     if at >= end {
-        return ended(io::write_all(STDOUT_FILENO, res));
+        return ended(rt, rt.write_all(res));
     }
     let mut path = io::buffer();
-    let n = os::arg(at + 1, &mut path);
-    if os::errno() != 0 {
-        os::fail(b"kuambyte: the name of a file");
-        return status::FAILED;
+    match rt.arg(at + 1, &mut path) {
+        Ok(n) => beside::write(rt, &path[..n], res),
+        Err(why) => {
+            nameless(rt, why);
+            status::FAILED
+        }
     }
-    beside::write(&path[..n], res)
 }
 
-// The exit status where a result was written, or was not.
-pub fn ended(written: bool) -> i32 {
-    if written {
-        return status::DONE;
+// The exit status where a result was written to standard output, or was not.
+pub fn ended(rt: &impl Errors, written: Result<(), Error>) -> i32 {
+    match written {
+        Ok(()) => status::DONE,
+        Err(why) => {
+            errors::fail(rt, b"kuambyte: standard output", &why);
+            status::FAILED
+        }
     }
-    os::fail(b"kuambyte: standard output");
-    status::FAILED
 }

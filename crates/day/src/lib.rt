@@ -1,4 +1,6 @@
 // The command `day`: the engineer's whole day on the sample shelves, with a line for each step.
+#![tactic(auto)]
+
 ghost use Rattle.std.specs.Prelude.{◌≤◌};
 
 use advice::Least;
@@ -6,6 +8,7 @@ use bits::count::{CodedBits, Terms};
 use bits::number::{DONE, Written};
 use checking::Checker;
 use console::argv::Words;
+use console::host::Host;
 use console::{argv, files, help, meanings, page, status};
 use hosted::asked::Parameters;
 use hosted::{calls, least, shelves};
@@ -24,18 +27,19 @@ const OTHER: u16 = 11;
 const THIRD: u16 = 3;
 
 // `shelves` is the folder of the two shelves.
-pub fn run(words: Words, shelves: &[u8]) -> i32 {
+pub fn run(rt: &impl Host, words: Words, shelves: &[u8]) -> i32 {
     if words.help {
-        return say(words);
+        return say(rt, words);
     }
-    if !argv::fits(b"", 0, b"-o\n") {
-        return say(words);
+    if !argv::fits(rt, b"", 0, b"-o\n") {
+        return say(rt, words);
     }
-    day(shelves)
+    day(rt, shelves)
 }
 
-fn say(words: Words) -> i32 {
+fn say(rt: &impl Host, words: Words) -> i32 {
     help::say(
+        rt,
         words.help,
         b"usage: kuambyte day [-o FILE]
 
@@ -45,9 +49,9 @@ a block, receives it, flips one bit and receives again, and asks as other tenant
     )
 }
 
-fn day(folder: &[u8]) -> i32 {
+fn day(rt: &impl Host, folder: &[u8]) -> i32 {
     let mut store = shelves::room();
-    let found = shelves::in_folder(folder, &mut store);
+    let found = shelves::in_folder(rt, folder, &mut store);
     if found.failed {
         return status::FAILED;
     }
@@ -57,7 +61,7 @@ fn day(folder: &[u8]) -> i32 {
         shelves::public(&store, found),
         &mut page,
     );
-    files::write(octets::first(&page, end))
+    files::write(rt, octets::first(&page, end))
 }
 
 fn steps<'a>(private: &'a [u8], public: &'a [u8], page: &mut [u8]) -> usize {

@@ -1,26 +1,29 @@
 // The command `help`, and what is said where a word names no command.
 use console::argv::Words;
+use console::errors::Errors;
+use console::host::Host;
 use console::{argv, files, help, page, status};
-use libc::{STDERR_FILENO, STDOUT_FILENO};
+use std::rt::Env;
 use text::octets;
 
-pub fn run() -> i32 {
-    files::ended(overview(STDOUT_FILENO))
+pub fn run(rt: &(impl Print + Errors)) -> i32 {
+    files::ended(rt, rt.write_all(overview()))
 }
 
 // Which version this is; include/kuambyte.h has the same.
-pub fn version(words: Words) -> i32 {
+pub fn version(rt: &impl Host, words: Words) -> i32 {
     if words.help {
-        return say_version(words);
+        return say_version(rt, words);
     }
-    if !argv::fits(b"", 0, b"") {
-        return say_version(words);
+    if !argv::fits(rt, b"", 0, b"") {
+        return say_version(rt, words);
     }
-    files::ended(io::write_all(STDOUT_FILENO, b"kuambyte 0.1.0\n"))
+    files::ended(rt, rt.write_all(b"kuambyte 0.1.0\n"))
 }
 
-fn say_version(words: Words) -> i32 {
+fn say_version(rt: &impl Host, words: Words) -> i32 {
     help::say(
+        rt,
         words.help,
         b"usage: kuambyte --version
 
@@ -29,35 +32,30 @@ Writes the name of the program and its version.
     )
 }
 
-pub fn too_many() -> i32 {
-    io::write_all(
-        STDERR_FILENO,
-        b"kuambyte: help takes the name of one command\n",
-    );
-    help::say(false, b"usage: kuambyte help [COMMAND]\n")
+pub fn too_many(rt: &impl Host) -> i32 {
+    rt.say(b"kuambyte: help takes the name of one command\n");
+    help::say(rt, false, b"usage: kuambyte help [COMMAND]\n")
 }
 
 // No word was given. Nothing goes to standard output, so that what reads a result meets no other text.
-pub fn missing() -> i32 {
-    overview(STDERR_FILENO);
+pub fn missing(rt: &impl Errors) -> i32 {
+    rt.say(overview());
     status::WRONG_WORDS
 }
 
-pub fn unknown(place: usize) -> i32 {
+pub fn unknown(rt: &(impl Env + Errors), place: usize) -> i32 {
     let mut word = io::buffer();
-    let n = os::arg(place, &mut word);
+    let n = argv::read(rt, place, &mut word);
     let mut line = io::buffer();
     let a = page::put(b"kuambyte: unknown word '", &mut line, 0);
     let b = page::put(octets::first(&word[..n], 100), &mut line, a);
     let c = page::put(b"'; kuambyte help lists the commands\n", &mut line, b);
-    io::write_all(STDERR_FILENO, octets::first(&line, c));
+    rt.say(octets::first(&line, c));
     status::WRONG_WORDS
 }
 
-fn overview(fd: i32) -> bool {
-    io::write_all(
-        fd,
-        b"kuambyte asks the proved coding library and writes what it answers.
+fn overview() -> &'static [u8] {
+    b"kuambyte asks the proved coding library and writes what it answers.
 
 Coding, for a tenant and a profile number:
   kuambyte lookup PRIVATE PUBLIC TENANT PROFILE > record
@@ -90,6 +88,5 @@ PRIVATE and PUBLIC are shelf files. Words in capitals may also be given by name 
 -o FILE writes it to a file, which is never half written.
 A refusal is one line on standard error, and its number is the exit status; 64 is for wrong words, 65 for a text that is no shelf, and 74 for
 a file that cannot be read or a write that failed.
-",
-    )
+"
 }

@@ -1,20 +1,22 @@
 // The command `numbers`: the table of all numbers that are answered.
 use console::argv::Words;
+use console::host::Host;
 use console::{argv, files, help, meanings, page};
 use text::octets;
 
-pub fn run(words: Words) -> i32 {
+pub fn run(rt: &impl Host, words: Words) -> i32 {
     if words.help {
-        return say(words);
+        return say(rt, words);
     }
-    if !argv::fits(b"", 0, b"-o\n") {
-        return say(words);
+    if !argv::fits(rt, b"", 0, b"-o\n") {
+        return say(rt, words);
     }
-    write()
+    write(rt)
 }
 
-fn say(words: Words) -> i32 {
+fn say(rt: &impl Host, words: Words) -> i32 {
     help::say(
+        rt,
         words.help,
         b"usage: kuambyte numbers [-o FILE]
 
@@ -23,7 +25,7 @@ Writes the table of the numbers that are answered, and what each means.
     )
 }
 
-fn write() -> i32 {
+fn write(rt: &impl Host) -> i32 {
     let mut page = io::buffer();
     let a = page::put(b"no.  given when\n", &mut page, 0);
     let b = rows(&mut page, a);
@@ -39,7 +41,7 @@ status. Other statuses: 64 wrong words, 65 a text that is no shelf, 74 a file th
         &mut page,
         b,
     );
-    files::write(octets::first(&page, c))
+    files::write(rt, octets::first(&page, c))
 }
 
 fn rows(page: &mut [u8], from: usize) -> usize {

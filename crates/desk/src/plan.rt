@@ -5,6 +5,7 @@ ghost use Rattle.desk.specs.Parts.{PartOf};
 
 use bits::number::{DONE, NO_ROOM};
 use console::argv::Words;
+use console::host::Host;
 use console::{argv, files, help, page, status};
 use cutting::Plan;
 use hosted::asked::Parameters;
@@ -14,18 +15,19 @@ use text::octets;
 // The names of the words, in their order.
 const NAMES: [u8; 35] = *b"--record\n--octets\n--layers\n--order\n";
 
-pub fn run(words: Words) -> i32 {
+pub fn run(rt: &impl Host, words: Words) -> i32 {
     if words.help {
-        return say(words);
+        return say(rt, words);
     }
-    if !argv::fits(&NAMES, 2, b"--edition\n-o\n") {
-        return say(words);
+    if !argv::fits(rt, &NAMES, 2, b"--edition\n-o\n") {
+        return say(rt, words);
     }
-    read(words, asked::for_plan(&NAMES))
+    read(rt, words, asked::for_plan(rt, &NAMES))
 }
 
-fn say(words: Words) -> i32 {
+fn say(rt: &impl Host, words: Words) -> i32 {
     help::say(
+        rt,
         words.help,
         b"usage: kuambyte plan RECORD OCTETS [LAYERS [ORDER]] [--edition N] [-o FILE]
 
@@ -45,31 +47,31 @@ Words may also be given by name, in any order: --record RECORD --octets OCTETS -
     )
 }
 
-fn read(words: Words, asked: Parameters) -> i32 {
+fn read(rt: &impl Host, words: Words, asked: Parameters) -> i32 {
     if asked.bad {
-        return say(words);
+        return say(rt, words);
     }
     let mut record = io::large_buffer();
-    let file = files::named(&NAMES, b"--record", &mut record);
+    let file = files::named(rt, &NAMES, b"--record", &mut record);
     if file.failed {
         return status::FAILED;
     }
-    answer(octets::first(&record, file.count), asked)
+    answer(rt, octets::first(&record, file.count), asked)
 }
 
 // The numbers of the least G go first: 8 stands before 9. Where no G has room, the cutting is shown all the same.
-fn answer(record: &[u8], asked: Parameters) -> i32 {
+fn answer(rt: &impl Host, record: &[u8], asked: Parameters) -> i32 {
     let number = calls::least(record, asked).number;
     if is_refused(number) {
-        return refusal::write(number, record, asked);
+        return refusal::write(rt, number, record, asked);
     }
     let plan = cutting::plan_block(record, asked.terms.edition, asked.octets);
     if plan.number != DONE {
-        return refusal::write(plan.number, record, asked);
+        return refusal::write(rt, plan.number, record, asked);
     }
     let mut page = io::large_buffer();
     let n = put(record, plan, asked, &mut page);
-    files::write(octets::first(&page, n))
+    files::write(rt, octets::first(&page, n))
 }
 
 fn is_refused(number: u32) -> bool {
@@ -121,7 +123,7 @@ fn rows(profile: &[u8], plan: Plan, asked: Parameters, page: &mut [u8], from: us
 }
 
 // What one code block has of a transport block.
-#[derive(Drop)]
+#[derive(Clone, Copy)]
 pub struct Part {
     pub own: usize,
     // L, the bits of its checksum, 0 where it carries none.

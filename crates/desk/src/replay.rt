@@ -1,19 +1,21 @@
 // The command `replay`: requests are read from standard input and answered on standard output.
 use console::argv::Words;
+use console::host::Host;
 use console::{argv, help};
 
-pub fn run(words: Words) -> i32 {
+pub fn run(rt: &impl Host, words: Words) -> i32 {
     if words.help {
-        return say(words);
+        return say(rt, words);
     }
-    if !argv::fits(b"", 0, b"") {
-        return say(words);
+    if !argv::fits(rt, b"", 0, b"") {
+        return say(rt, words);
     }
-    stream::replay()
+    stream::replay(rt)
 }
 
-fn say(words: Words) -> i32 {
+fn say(rt: &impl Host, words: Words) -> i32 {
     help::say(
+        rt,
         words.help,
         b"usage: kuambyte replay < requests > answers
 

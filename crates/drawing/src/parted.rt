@@ -5,7 +5,7 @@ use console::parts;
 use text::octets;
 
 // The numbers of a table and its record.
-#[derive(Drop)]
+#[derive(Clone, Copy)]
 pub struct Shape {
     pub kb: usize,
     pub m: usize,

@@ -10,7 +10,7 @@ use text::octets;
 const WIDTH: usize = 1200;
 
 // The measures of a picture in its own units: those of one place of the matrix, and of the margins on the left and above.
-#[derive(Drop)]
+#[derive(Clone, Copy)]
 pub struct Scale {
     pub place: usize,
     pub left: usize,

@@ -4,8 +4,9 @@ ghost use Rattle.std.specs.Prelude.{◌≡◌, length};
 use crate::{grid, parted, picture};
 use bits::number::{DONE, PARAMETER};
 use console::argv::Words;
+use console::errors::Errors;
+use console::host::Host;
 use console::{argv, counted, files, help, meanings, page, parts, status};
-use libc::STDERR_FILENO;
 use reasons::records;
 use text::octets;
 
@@ -22,22 +23,23 @@ fn page_room() -> [u8; 262144]
     [0; 262144]
 }
 
-pub fn run(words: Words) -> i32 {
+pub fn run(rt: &impl Host, words: Words) -> i32 {
     if words.help {
-        return say(words);
+        return say(rt, words);
     }
-    if !argv::fits(&NAMES, 1, b"--svg\n-o\n") {
-        return say(words);
+    if !argv::fits(rt, &NAMES, 1, b"--svg\n-o\n") {
+        return say(rt, words);
     }
-    let z = argv::read_or(&NAMES, b"--z", NOT_GIVEN, NOT_GIVEN);
+    let z = argv::read_or(rt, &NAMES, b"--z", NOT_GIVEN, NOT_GIVEN);
     if z.bad {
-        return say(words);
+        return say(rt, words);
     }
-    read(words.svg, z.value)
+    read(rt, words.svg, z.value)
 }
 
-fn say(words: Words) -> i32 {
+fn say(rt: &impl Host, words: Words) -> i32 {
     help::say(
+        rt,
         words.help,
         b"usage: kuambyte show RECORD [Z] [--svg] [-o FILE]
 
@@ -54,29 +56,29 @@ Words may also be given by name, in any order: --record RECORD --z Z.
     )
 }
 
-fn read(svg: bool, z: usize) -> i32 {
+fn read(rt: &impl Host, svg: bool, z: usize) -> i32 {
     let mut store = io::large_buffer();
-    let file = files::named(&NAMES, b"--record", &mut store);
+    let file = files::named(rt, &NAMES, b"--record", &mut store);
     if file.failed {
         return status::FAILED;
     }
     let record = octets::first(&store, file.count);
     let number = profile::judge(record);
     if number != DONE {
-        return records::refuse(number, record);
+        return records::refuse(rt, number, record);
     }
-    answer(svg, z, record)
+    answer(rt, svg, z, record)
 }
 
-fn answer(svg: bool, z: usize, record: &[u8]) -> i32 {
+fn answer(rt: &impl Host, svg: bool, z: usize, record: &[u8]) -> i32 {
     let t = parts::two_octets(record, 8);
     let i = index_of(record, z, t);
     if is_other(z, i, t) {
-        return refuse(record, t);
+        return refuse(rt, record, t);
     }
     let mut page = page_room();
     let n = put(svg, i, t, record, &mut page);
-    files::write(octets::first(&page, n))
+    files::write(rt, octets::first(&page, n))
 }
 
 // Which table has this size, counted from 0, or t where none has.
@@ -103,7 +105,7 @@ fn is_other(z: usize, i: usize, t: usize) -> bool {
 }
 
 // Of a table, 8 is for its z.
-fn refuse(record: &[u8], t: usize) -> i32 {
+fn refuse(rt: &impl Errors, record: &[u8], t: usize) -> i32 {
     let mut line = io::buffer();
     let a = page::put(
         b"refused 8: the profile does not have this z; its sizes are",
@@ -112,7 +114,7 @@ fn refuse(record: &[u8], t: usize) -> i32 {
     );
     let b = put_sizes(record, t, &mut line, a);
     let c = page::put(b"\n", &mut line, b);
-    io::write_all(STDERR_FILENO, octets::first(&line, c));
+    rt.say(octets::first(&line, c));
     meanings::exit_status(PARAMETER)
 }
 

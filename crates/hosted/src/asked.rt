@@ -1,10 +1,12 @@
 // What a command asks of the library, as the words of the command line have it.
 use bits::count::{CodedBits, Terms};
 use console::argv::{Number, read_number, read_option, read_or};
+use console::errors::Errors;
+use std::rt::Env;
 use text::values;
 
 // The words TENANT and PROFILE, and of a block its octets, N_L, Q_m and G, and behind --rv and --edition its redundancy version and edition.
-#[derive(Drop)]
+#[derive(Clone, Copy)]
 pub struct Parameters {
     pub tenant: u16,
     pub profile: u16,
@@ -16,9 +18,9 @@ pub struct Parameters {
 }
 
 // The words TENANT and PROFILE. `names` has the names of all words of the command.
-pub fn for_lookup(names: &[u8]) -> Parameters {
-    let tenant = read_number(names, b"--tenant", 65535);
-    let profile = read_number(names, b"--profile", 65535);
+pub fn for_lookup(rt: &(impl Env + Errors), names: &[u8]) -> Parameters {
+    let tenant = read_number(rt, names, b"--tenant", 65535);
+    let profile = read_number(rt, names, b"--profile", 65535);
     Parameters {
         tenant: values::short_of(tenant.value),
         profile: values::short_of(profile.value),
@@ -35,13 +37,13 @@ pub fn for_lookup(names: &[u8]) -> Parameters {
 }
 
 // With them LAYERS, ORDER and BITS. The octets are known once the block is read.
-pub fn for_send(names: &[u8]) -> Parameters {
-    let mut asked = for_lookup(names);
-    let layers = read_number(names, b"--layers", usize::MAX);
-    let order = read_number(names, b"--order", usize::MAX);
-    let bits = read_number(names, b"--bits", usize::MAX);
-    let version = read_version();
-    let edition = read_edition();
+pub fn for_send(rt: &(impl Env + Errors), names: &[u8]) -> Parameters {
+    let mut asked = for_lookup(rt, names);
+    let layers = read_number(rt, names, b"--layers", usize::MAX);
+    let order = read_number(rt, names, b"--order", usize::MAX);
+    let bits = read_number(rt, names, b"--bits", usize::MAX);
+    let version = read_version(rt);
+    let edition = read_edition(rt);
     let terms = Terms {
         nl: layers.value,
         qm: order.value,
@@ -57,14 +59,14 @@ pub fn for_send(names: &[u8]) -> Parameters {
 const MOST_OCTETS: usize = usize::MAX / 8;
 
 // With them OCTETS, LAYERS and ORDER. G is known once the bits are read.
-pub fn for_receive(names: &[u8]) -> Parameters {
-    let mut asked = for_lookup(names);
-    let octets = read_number(names, b"--octets", MOST_OCTETS);
-    let layers = read_number(names, b"--layers", usize::MAX);
-    let order = read_number(names, b"--order", usize::MAX);
+pub fn for_receive(rt: &(impl Env + Errors), names: &[u8]) -> Parameters {
+    let mut asked = for_lookup(rt, names);
+    let octets = read_number(rt, names, b"--octets", MOST_OCTETS);
+    let layers = read_number(rt, names, b"--layers", usize::MAX);
+    let order = read_number(rt, names, b"--order", usize::MAX);
     asked.octets = octets.value;
-    let version = read_version();
-    let edition = read_edition();
+    let version = read_version(rt);
+    let edition = read_edition(rt);
     let terms = Terms {
         nl: layers.value,
         qm: order.value,
@@ -77,21 +79,21 @@ pub fn for_receive(names: &[u8]) -> Parameters {
 }
 
 // The redundancy version behind --rv, 0 where it is not given. The library refuses those that it does not take.
-fn read_version() -> Number {
-    read_option(b"--rv", b"N behind --rv", usize::MAX, 0)
+fn read_version(rt: &(impl Env + Errors)) -> Number {
+    read_option(rt, b"--rv", b"N behind --rv", usize::MAX, 0)
 }
 
 // The edition behind --edition, 1 where it is not given; refused by the library likewise.
-fn read_edition() -> Number {
-    read_option(b"--edition", b"N behind --edition", usize::MAX, 1)
+fn read_edition(rt: &(impl Env + Errors)) -> Number {
+    read_option(rt, b"--edition", b"N behind --edition", usize::MAX, 1)
 }
 
 // OCTETS, LAYERS and ORDER, and the edition; one layer and two bits to a symbol where these are not given.
-pub fn for_plan(names: &[u8]) -> Parameters {
-    let octets = read_number(names, b"--octets", usize::MAX);
-    let layers = read_or(names, b"--layers", usize::MAX, 1);
-    let order = read_or(names, b"--order", usize::MAX, 2);
-    let edition = read_edition();
+pub fn for_plan(rt: &(impl Env + Errors), names: &[u8]) -> Parameters {
+    let octets = read_number(rt, names, b"--octets", usize::MAX);
+    let layers = read_or(rt, names, b"--layers", usize::MAX, 1);
+    let order = read_or(rt, names, b"--order", usize::MAX, 2);
+    let edition = read_edition(rt);
     Parameters {
         tenant: 0,
         profile: 0,

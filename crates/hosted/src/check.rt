@@ -10,29 +10,32 @@ use bits::inner::some_over;
 use bits::number::{DONE, PARAMETER};
 use checking::Checker;
 use console::argv::Words;
+use console::errors::Errors;
+use console::host::Host;
 use console::{argv, files, help, page, status};
 use text::octets;
 
 // The names of the words, in their order.
 const NAMES: [u8; 42] = *b"--private\n--public\n--tenant\n--profile\n--z\n";
 
-pub fn run(words: Words) -> i32 {
+pub fn run(rt: &impl Host, words: Words) -> i32 {
     if words.help {
-        return say(words);
+        return say(rt, words);
     }
-    if !argv::fits(&NAMES, 5, b"--plain\n--text\n-o\n") {
-        return say(words);
+    if !argv::fits(rt, &NAMES, 5, b"--plain\n--text\n-o\n") {
+        return say(rt, words);
     }
-    let asked = asked::for_lookup(&NAMES);
-    let z = argv::read_number(&NAMES, b"--z", usize::MAX);
+    let asked = asked::for_lookup(rt, &NAMES);
+    let z = argv::read_number(rt, &NAMES, b"--z", usize::MAX);
     if asked.bad | z.bad {
-        return say(words);
+        return say(rt, words);
     }
-    read(words, asked, z.value)
+    read(rt, words, asked, z.value)
 }
 
-fn say(words: Words) -> i32 {
+fn say(rt: &impl Host, words: Words) -> i32 {
     help::say(
+        rt,
         words.help,
         b"usage: kuambyte check PRIVATE PUBLIC TENANT PROFILE Z [--plain] [--text] [-o FILE] < word
 
@@ -51,23 +54,31 @@ Words may also be given by name, in any order: --private PRIVATE --public PUBLIC
     )
 }
 
-fn read(words: Words, asked: Parameters, z: usize) -> i32 {
+fn read(rt: &impl Host, words: Words, asked: Parameters, z: usize) -> i32 {
     let mut store = shelves::room();
-    let found = shelves::named(&NAMES, &mut store);
+    let found = shelves::named(rt, &NAMES, &mut store);
     if found.failed {
         return status::FAILED;
     }
-    read_word(words, asked, z, &store, found)
+    read_word(rt, words, asked, z, &store, found)
 }
 
-fn read_word(words: Words, asked: Parameters, z: usize, store: &[u8], found: Shelves) -> i32 {
+fn read_word(
+    rt: &impl Host,
+    words: Words,
+    asked: Parameters,
+    z: usize,
+    store: &[u8],
+    found: Shelves,
+) -> i32 {
     let mut bits = files::bits_room();
-    let input = files::input(words.text, &mut bits);
+    let input = files::input(rt, words.text, &mut bits);
     if input.failed {
         return status::FAILED;
     }
     let checker = calls::checker(words.plain);
     answer(
+        rt,
         asked,
         z,
         checker,
@@ -78,6 +89,7 @@ fn read_word(words: Words, asked: Parameters, z: usize, store: &[u8], found: She
 }
 
 fn answer(
+    rt: &impl Host,
     asked: Parameters,
     z: usize,
     checker: Checker,
@@ -92,18 +104,18 @@ fn answer(
     let verdict = shelf::hosted_check(private, public, tenant, profile, z, word, checker);
     let record = shelf::lookup(private, public, tenant, profile);
     if verdict.number != DONE {
-        return refuse(verdict.number, record, asked);
+        return refuse(rt, verdict.number, record, asked);
     }
     if verdict.checks {
-        return files::write(b"checks\n");
+        return files::write(rt, b"checks\n");
     }
-    write_odd(record, z, word)
+    write_odd(rt, record, z, word)
 }
 
 // Of a word, 8 is for its z or its length, and not for what a block is sent with.
-fn refuse(number: u32, record: &[u8], asked: Parameters) -> i32 {
+fn refuse(rt: &impl Errors, number: u32, record: &[u8], asked: Parameters) -> i32 {
     if number != PARAMETER {
-        return refusal::write(number, record, asked);
+        return refusal::write(rt, number, record, asked);
     }
     let mut line = io::buffer();
     let a = page::put(
@@ -113,7 +125,7 @@ fn refuse(number: u32, record: &[u8], asked: Parameters) -> i32 {
     );
     let b = put_sizes(record, &mut line, a);
     let c = page::put(b"\n", &mut line, b);
-    refusal::say(number, octets::first(&line, c))
+    refusal::say(rt, number, octets::first(&line, c))
 }
 
 // Puts how long the words of each of the profile's sizes are.
@@ -151,13 +163,13 @@ fn put_between(first: bool, last: bool, line: &mut [u8], at: usize) -> usize {
     page::put(b",", line, at)
 }
 
-fn write_odd(record: &[u8], z: usize, word: &[u8]) -> i32 {
+fn write_odd(rt: &impl Host, record: &[u8], z: usize, word: &[u8]) -> i32 {
     let mut sums = [0u8; 3240];
     let summed = checking::row_sums(record, z, word, &mut sums);
     let mut page = io::large_buffer();
     let a = page::put(b"does not check; odd rows:\n", &mut page, 0);
     let b = put_groups(octets::first(&sums, summed.count), z, &mut page, a);
-    files::write(octets::first(&page, b))
+    files::write(rt, octets::first(&page, b))
 }
 
 // Puts a line for each group of z rows that has odd ones.

@@ -4,27 +4,29 @@ use crate::shelves::Shelves;
 use crate::{asked, shelves};
 use bits::number::DONE;
 use console::argv::Words;
+use console::host::Host;
 use console::{argv, files, help, status};
 
 // The names of the words, in their order.
 const NAMES: [u8; 38] = *b"--private\n--public\n--tenant\n--profile\n";
 
-pub fn run(words: Words) -> i32 {
+pub fn run(rt: &impl Host, words: Words) -> i32 {
     if words.help {
-        return say(words);
+        return say(rt, words);
     }
-    if !argv::fits(&NAMES, 4, b"-o\n") {
-        return say(words);
+    if !argv::fits(rt, &NAMES, 4, b"-o\n") {
+        return say(rt, words);
     }
-    let asked = asked::for_lookup(&NAMES);
+    let asked = asked::for_lookup(rt, &NAMES);
     if asked.bad {
-        return say(words);
+        return say(rt, words);
     }
-    read(asked)
+    read(rt, asked)
 }
 
-fn say(words: Words) -> i32 {
+fn say(rt: &impl Host, words: Words) -> i32 {
     help::say(
+        rt,
         words.help,
         b"usage: kuambyte lookup PRIVATE PUBLIC TENANT PROFILE [-o FILE] > record
 
@@ -39,21 +41,24 @@ Words may also be given by name, in any order: --private PRIVATE --public PUBLIC
     )
 }
 
-fn read(asked: Parameters) -> i32 {
+fn read(rt: &impl Host, asked: Parameters) -> i32 {
     let mut store = shelves::room();
-    let found = shelves::named(&NAMES, &mut store);
+    let found = shelves::named(rt, &NAMES, &mut store);
     if found.failed {
         return status::FAILED;
     }
-    answer(asked, &store, found)
+    answer(rt, asked, &store, found)
 }
 
-fn answer(asked: Parameters, store: &[u8], found: Shelves) -> i32 {
+fn answer(rt: &impl Host, asked: Parameters, store: &[u8], found: Shelves) -> i32 {
     let private = shelves::private(store, found);
     let public = shelves::public(store, found);
     let number = shelf::lookup_number(private, public, asked.tenant, asked.profile);
     if number != DONE {
-        return shelves::refuse(number, asked, store, found);
+        return shelves::refuse(rt, number, asked, store, found);
     }
-    files::write(shelf::lookup(private, public, asked.tenant, asked.profile))
+    files::write(
+        rt,
+        shelf::lookup(private, public, asked.tenant, asked.profile),
+    )
 }

@@ -5,28 +5,30 @@ use crate::{asked, calls, shelves};
 use bits::number::DONE;
 use checking::Checker;
 use console::argv::Words;
+use console::host::Host;
 use console::{argv, files, help, status};
 use text::octets;
 
 // The names of the words, in their order.
 const NAMES: [u8; 64] = *b"--private\n--public\n--tenant\n--profile\n--octets\n--layers\n--order\n";
 
-pub fn run(words: Words) -> i32 {
+pub fn run(rt: &impl Host, words: Words) -> i32 {
     if words.help {
-        return say(words);
+        return say(rt, words);
     }
-    if !argv::fits(&NAMES, 7, b"--rv\n--edition\n--plain\n--text\n-o\n") {
-        return say(words);
+    if !argv::fits(rt, &NAMES, 7, b"--rv\n--edition\n--plain\n--text\n-o\n") {
+        return say(rt, words);
     }
-    let asked = asked::for_receive(&NAMES);
+    let asked = asked::for_receive(rt, &NAMES);
     if asked.bad {
-        return say(words);
+        return say(rt, words);
     }
-    read(words, asked)
+    read(rt, words, asked)
 }
 
-fn say(words: Words) -> i32 {
+fn say(rt: &impl Host, words: Words) -> i32 {
     help::say(
+        rt,
         words.help,
         b"usage: kuambyte receive PRIVATE PUBLIC TENANT PROFILE OCTETS LAYERS ORDER [--rv N] [--edition N] [--plain] [--text] [-o FILE] < bits > block
 
@@ -49,23 +51,24 @@ Words may also be given by name, in any order: --private PRIVATE --public PUBLIC
     )
 }
 
-fn read(words: Words, asked: Parameters) -> i32 {
+fn read(rt: &impl Host, words: Words, asked: Parameters) -> i32 {
     let mut store = shelves::room();
-    let found = shelves::named(&NAMES, &mut store);
+    let found = shelves::named(rt, &NAMES, &mut store);
     if found.failed {
         return status::FAILED;
     }
-    read_bits(words, asked, &store, found)
+    read_bits(rt, words, asked, &store, found)
 }
 
-fn read_bits(words: Words, asked: Parameters, store: &[u8], found: Shelves) -> i32 {
+fn read_bits(rt: &impl Host, words: Words, asked: Parameters, store: &[u8], found: Shelves) -> i32 {
     let mut bits = files::bits_room();
-    let input = files::input(words.text, &mut bits);
+    let input = files::input(rt, words.text, &mut bits);
     if input.failed {
         return status::FAILED;
     }
     let checker = calls::checker(words.plain);
     answer(
+        rt,
         asked,
         checker,
         store,
@@ -74,14 +77,21 @@ fn read_bits(words: Words, asked: Parameters, store: &[u8], found: Shelves) -> i
     )
 }
 
-fn answer(asked: Parameters, checker: Checker, store: &[u8], found: Shelves, bits: &[u8]) -> i32 {
+fn answer(
+    rt: &impl Host,
+    asked: Parameters,
+    checker: Checker,
+    store: &[u8],
+    found: Shelves,
+    bits: &[u8],
+) -> i32 {
     let private = shelves::private(store, found);
     let public = shelves::public(store, found);
     let mut block = files::block_room();
     let received = calls::receive(private, public, asked, bits, checker, &mut block);
     if received.number != DONE {
         let given = asked::with_bits(asked, bits.len());
-        return shelves::refuse(received.number, given, store, found);
+        return shelves::refuse(rt, received.number, given, store, found);
     }
-    files::write(octets::first(&block, received.count))
+    files::write(rt, octets::first(&block, received.count))
 }

@@ -4,19 +4,19 @@ use crate::least;
 use bits::count::Terms;
 use bits::count::inner::{is_usable, place_bits};
 use bits::number::DONE;
+use console::errors::Errors;
 use console::{meanings, page};
-use libc::STDERR_FILENO;
 use text::octets;
 
 // Says the number, what it means and what would be accepted. The exit status is the number.
-pub fn write(number: u32, record: &[u8], asked: Parameters) -> i32 {
+pub fn write(rt: &impl Errors, number: u32, record: &[u8], asked: Parameters) -> i32 {
     let mut line = io::buffer();
     let n = put(number, record, asked, &mut line);
-    say(number, octets::first(&line, n))
+    say(rt, number, octets::first(&line, n))
 }
 
-pub fn say(number: u32, line: &[u8]) -> i32 {
-    io::write_all(STDERR_FILENO, line);
+pub fn say(rt: &impl Errors, number: u32, line: &[u8]) -> i32 {
+    rt.say(line);
     meanings::exit_status(number)
 }
 

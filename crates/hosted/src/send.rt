@@ -4,28 +4,30 @@ use crate::shelves::Shelves;
 use crate::{asked, calls, shelves};
 use bits::number::DONE;
 use console::argv::Words;
+use console::host::Host;
 use console::{argv, files, help, status};
 use text::octets;
 
 // The names of the words, in their order.
 const NAMES: [u8; 62] = *b"--private\n--public\n--tenant\n--profile\n--layers\n--order\n--bits\n";
 
-pub fn run(words: Words) -> i32 {
+pub fn run(rt: &impl Host, words: Words) -> i32 {
     if words.help {
-        return say(words);
+        return say(rt, words);
     }
-    if !argv::fits(&NAMES, 7, b"--rv\n--edition\n--text\n-o\n") {
-        return say(words);
+    if !argv::fits(rt, &NAMES, 7, b"--rv\n--edition\n--text\n-o\n") {
+        return say(rt, words);
     }
-    let asked = asked::for_send(&NAMES);
+    let asked = asked::for_send(rt, &NAMES);
     if asked.bad {
-        return say(words);
+        return say(rt, words);
     }
-    read(words.text, asked)
+    read(rt, words.text, asked)
 }
 
-fn say(words: Words) -> i32 {
+fn say(rt: &impl Host, words: Words) -> i32 {
     help::say(
+        rt,
         words.help,
         b"usage: kuambyte send PRIVATE PUBLIC TENANT PROFILE LAYERS ORDER BITS [--rv N] [--edition N] [--text] [-o FILE] < block > bits
 
@@ -48,22 +50,23 @@ Words may also be given by name, in any order: --private PRIVATE --public PUBLIC
     )
 }
 
-fn read(text: bool, asked: Parameters) -> i32 {
+fn read(rt: &impl Host, text: bool, asked: Parameters) -> i32 {
     let mut store = shelves::room();
-    let found = shelves::named(&NAMES, &mut store);
+    let found = shelves::named(rt, &NAMES, &mut store);
     if found.failed {
         return status::FAILED;
     }
-    read_block(text, asked, &store, found)
+    read_block(rt, text, asked, &store, found)
 }
 
-fn read_block(text: bool, asked: Parameters, store: &[u8], found: Shelves) -> i32 {
+fn read_block(rt: &impl Host, text: bool, asked: Parameters, store: &[u8], found: Shelves) -> i32 {
     let mut block = files::block_room();
-    let input = files::input(false, &mut block);
+    let input = files::input(rt, false, &mut block);
     if input.failed {
         return status::FAILED;
     }
     answer(
+        rt,
         text,
         asked,
         store,
@@ -72,22 +75,29 @@ fn read_block(text: bool, asked: Parameters, store: &[u8], found: Shelves) -> i3
     )
 }
 
-fn answer(text: bool, asked: Parameters, store: &[u8], found: Shelves, block: &[u8]) -> i32 {
+fn answer(
+    rt: &impl Host,
+    text: bool,
+    asked: Parameters,
+    store: &[u8],
+    found: Shelves,
+    block: &[u8],
+) -> i32 {
     let private = shelves::private(store, found);
     let public = shelves::public(store, found);
     let mut bits = files::bits_room();
     let sent = calls::send(private, public, asked, block, &mut bits);
     if sent.number != DONE {
         let given = asked::with_octets(asked, block.len());
-        return shelves::refuse(sent.number, given, store, found);
+        return shelves::refuse(rt, sent.number, given, store, found);
     }
-    write(text, sent.count, &mut bits)
+    write(rt, text, sent.count, &mut bits)
 }
 
-fn write(text: bool, count: usize, bits: &mut [u8]) -> i32 {
+fn write(rt: &impl Host, text: bool, count: usize, bits: &mut [u8]) -> i32 {
     if text {
         let n = files::as_text(bits, count);
-        return files::write(octets::first(bits, n));
+        return files::write(rt, octets::first(bits, n));
     }
-    files::write(octets::first(bits, count))
+    files::write(rt, octets::first(bits, count))
 }

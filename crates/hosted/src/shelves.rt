@@ -3,8 +3,10 @@ ghost use Rattle.std.specs.Prelude.{◌≡◌, length};
 
 use crate::asked::Parameters;
 use crate::refusal;
+use console::errors::Errors;
 use console::files::Taken;
 use console::{files, page};
+use std::rt::{Env, Files};
 use text::octets;
 
 // A shelf has at most 65,535 octets, so of one that is too long a half has one more than is accepted.
@@ -15,7 +17,7 @@ pub fn room() -> [u8; 131072]
 }
 
 // How many octets of each half are a shelf.
-#[derive(Drop)]
+#[derive(Clone, Copy)]
 pub struct Shelves {
     pub private: usize,
     pub public: usize,
@@ -24,13 +26,13 @@ pub struct Shelves {
 }
 
 // Reads the files that the words PRIVATE and PUBLIC name. `names` has the names of all words of the command.
-pub fn named(names: &[u8], store: &mut [u8]) -> Shelves {
+pub fn named(rt: &(impl Env + Files + Errors), names: &[u8], store: &mut [u8]) -> Shelves {
     let half = store.len() / 2;
-    let own = files::named(names, b"--private", &mut store[0..half]);
+    let own = files::named(rt, names, b"--private", &mut store[0..half]);
     if own.failed {
         return failure();
     }
-    let all = files::named(names, b"--public", &mut store[half..]);
+    let all = files::named(rt, names, b"--public", &mut store[half..]);
     Shelves {
         private: own.count,
         public: all.count,
@@ -39,13 +41,13 @@ pub fn named(names: &[u8], store: &mut [u8]) -> Shelves {
 }
 
 // Reads the shelves of a folder, on which the command `day` is run.
-pub fn in_folder(folder: &[u8], store: &mut [u8]) -> Shelves {
+pub fn in_folder(rt: &(impl Files + Errors), folder: &[u8], store: &mut [u8]) -> Shelves {
     let half = store.len() / 2;
-    let own = in_file(folder, b"/private.shelf", &mut store[0..half]);
+    let own = in_file(rt, folder, b"/private.shelf", &mut store[0..half]);
     if own.failed {
         return failure();
     }
-    let all = in_file(folder, b"/public.shelf", &mut store[half..]);
+    let all = in_file(rt, folder, b"/public.shelf", &mut store[half..]);
     Shelves {
         private: own.count,
         public: all.count,
@@ -53,11 +55,11 @@ pub fn in_folder(folder: &[u8], store: &mut [u8]) -> Shelves {
     }
 }
 
-fn in_file(folder: &[u8], name: &[u8], store: &mut [u8]) -> Taken {
+fn in_file(rt: &(impl Files + Errors), folder: &[u8], name: &[u8], store: &mut [u8]) -> Taken {
     let mut path = io::buffer();
     let at = page::put(folder, &mut path, 0);
     let end = page::put(name, &mut path, at);
-    files::of_path(octets::first(&path, end), store)
+    files::of_path(rt, octets::first(&path, end), store)
 }
 
 fn failure() -> Shelves {
@@ -79,12 +81,18 @@ pub fn public(store: &[u8], shelves: Shelves) -> &[u8] {
 }
 
 // The refusal of a hosted call.
-pub fn refuse(number: u32, asked: Parameters, store: &[u8], shelves: Shelves) -> i32 {
+pub fn refuse(
+    rt: &impl Errors,
+    number: u32,
+    asked: Parameters,
+    store: &[u8],
+    shelves: Shelves,
+) -> i32 {
     let record = shelf::lookup(
         private(store, shelves),
         public(store, shelves),
         asked.tenant,
         asked.profile,
     );
-    refusal::write(number, record, asked)
+    refusal::write(rt, number, record, asked)
 }

@@ -51,7 +51,7 @@ pub const MORE_OCTETS: usize = 21;
 pub const ROOM: usize = 22;
 
 // What was expected, and the numbers that it speaks of. The column is counted from 1, as the line is.
-#[derive(Drop)]
+#[derive(Clone, Copy)]
 pub struct Fault {
     pub code: usize,
     pub column: usize,

@@ -7,7 +7,7 @@ use text::values::Parsed;
 use text::{octets, values};
 
 // Where a word begins, and how many characters it has: none at the end of the line.
-#[derive(Drop)]
+#[derive(Clone, Copy)]
 pub struct Span {
     pub from: usize,
     pub size: usize,

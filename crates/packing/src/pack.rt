@@ -4,8 +4,9 @@ use crate::state::State;
 use crate::{fault, heads, line, rooms, rows, state, whole};
 use bits::number::DONE;
 use console::argv::Words;
+use console::errors::Errors;
+use console::host::Host;
 use console::{argv, files, help, list, meanings, page, parts, status};
-use libc::STDERR_FILENO;
 use reasons::{records, side};
 use shelf::inner::form;
 use text::{octets, words};
@@ -13,22 +14,23 @@ use text::{octets, words};
 // The names of the words, in their order.
 const NAMES: [u8; 7] = *b"--kind\n";
 
-pub fn run(words: Words) -> i32 {
+pub fn run(rt: &impl Host, words: Words) -> i32 {
     if words.help {
-        return say(words);
+        return say(rt, words);
     }
-    if !argv::fits(&NAMES, 1, b"-o\n") {
-        return say(words);
+    if !argv::fits(rt, &NAMES, 1, b"-o\n") {
+        return say(rt, words);
     }
-    let side = side::read(&NAMES);
+    let side = side::read(rt, &NAMES);
     if side.bad {
-        return say(words);
+        return say(rt, words);
     }
-    read(side.private)
+    read(rt, side.private)
 }
 
-fn say(words: Words) -> i32 {
+fn say(rt: &impl Host, words: Words) -> i32 {
     help::say(
+        rt,
         words.help,
         b"usage: kuambyte pack KIND [-o FILE] < text > shelf
 
@@ -41,41 +43,38 @@ wrong is said with its line and column. docs/SHELVES.md has the form of a text.
     )
 }
 
-fn read(private: bool) -> i32 {
+fn read(rt: &impl Host, private: bool) -> i32 {
     let mut text = rooms::text();
-    let input = files::input(false, &mut text);
+    let input = files::input(rt, false, &mut text);
     if input.failed {
         return status::FAILED;
     }
     if input.count == rooms::TEXT {
-        io::write_all(
-            STDERR_FILENO,
-            b"kuambyte: the text has more than 399999 characters\n",
-        );
+        rt.say(b"kuambyte: the text has more than 399999 characters\n");
         return status::WRONG_TEXT;
     }
-    answer(private, octets::first(&text, input.count))
+    answer(rt, private, octets::first(&text, input.count))
 }
 
-fn answer(private: bool, text: &[u8]) -> i32 {
+fn answer(rt: &impl Host, private: bool, text: &[u8]) -> i32 {
     let mut tables = rooms::tables();
     let mut entries = rooms::entries();
     let mut records = files::shelf_room();
     let state = take_all(text, private, &mut tables, &mut entries, &mut records);
     if state.bad {
-        return complain(text, &records, state);
+        return complain(rt, text, &records, state);
     }
     let mut shelf = files::shelf_room();
     let n = compose(&entries, &records, &mut shelf, state);
-    write(private, octets::first(&shelf, n))
+    write(rt, private, octets::first(&shelf, n))
 }
 
 // The shelf is judged by the library as well, whatever was tested on the way.
-fn write(private: bool, shelf: &[u8]) -> i32 {
+fn write(rt: &impl Host, private: bool, shelf: &[u8]) -> i32 {
     if !form::well_formed(private, shelf) {
-        return reasons::shelves::refuse(private, shelf);
+        return reasons::shelves::refuse(rt, private, shelf);
     }
-    files::write(shelf)
+    files::write(rt, shelf)
 }
 
 // Goes through the text line by line, up to the first fault.
@@ -169,20 +168,20 @@ fn put_entry(entry: &[u8], offset: usize, shelf: &mut [u8], at: usize) -> usize 
 }
 
 // Says what is wrong, and in which line and column.
-fn complain(text: &[u8], records: &[u8], state: State) -> i32 {
+fn complain(rt: &impl Errors, text: &[u8], records: &[u8], state: State) -> i32 {
     let mut line = io::buffer();
     let fault = state.fault;
     if fault.code == fault::NONE {
-        return complain_of_record(records, state);
+        return complain_of_record(rt, records, state);
     }
     let read = words::before(list::line(text, less(state.line)), b'#');
     let n = fault::put(state.line, read, fault, &mut line, 0);
-    io::write_all(STDERR_FILENO, octets::first(&line, n));
+    rt.say(octets::first(&line, n));
     status::WRONG_TEXT
 }
 
 // A record that the library judges otherwise than the text says.
-fn complain_of_record(records: &[u8], state: State) -> i32 {
+fn complain_of_record(rt: &impl Errors, records: &[u8], state: State) -> i32 {
     let mut line = io::buffer();
     let a = page::form(
         b"kuambyte: line #, column 1: the record of tenant # and profile # is ",
@@ -191,7 +190,7 @@ fn complain_of_record(records: &[u8], state: State) -> i32 {
         0,
     );
     let b = put_verdict(records, &mut line, a, state);
-    io::write_all(STDERR_FILENO, octets::first(&line, b));
+    rt.say(octets::first(&line, b));
     if state.refused == DONE {
         return status::WRONG_TEXT;
     }

@@ -15,7 +15,7 @@ pub const ROWS: usize = 2;
 // Octets of a refused record are due.
 pub const OCTETS: usize = 3;
 
-#[derive(Drop)]
+#[derive(Clone, Copy)]
 pub struct State {
     pub private: bool,
     // The line, counted from 1, and the one that the record begins with.

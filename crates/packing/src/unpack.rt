@@ -2,6 +2,7 @@
 use crate::rooms;
 use bits::number::DONE;
 use console::argv::Words;
+use console::host::Host;
 use console::{argv, files, help, page, parts, status};
 use reasons::{shelves, side};
 use shelf::inner::form;
@@ -13,22 +14,23 @@ const NAMES: [u8; 7] = *b"--kind\n";
 // The octets of a refused record on one line.
 const IN_LINE: usize = 16;
 
-pub fn run(words: Words) -> i32 {
+pub fn run(rt: &impl Host, words: Words) -> i32 {
     if words.help {
-        return say(words);
+        return say(rt, words);
     }
-    if !argv::fits(&NAMES, 1, b"-o\n") {
-        return say(words);
+    if !argv::fits(rt, &NAMES, 1, b"-o\n") {
+        return say(rt, words);
     }
-    let side = side::read(&NAMES);
+    let side = side::read(rt, &NAMES);
     if side.bad {
-        return say(words);
+        return say(rt, words);
     }
-    read(side.private)
+    read(rt, side.private)
 }
 
-fn say(words: Words) -> i32 {
+fn say(rt: &impl Host, words: Words) -> i32 {
     help::say(
+        rt,
         words.help,
         b"usage: kuambyte unpack KIND [-o FILE] < shelf > text
 
@@ -41,19 +43,19 @@ the number that refuses it. docs/SHELVES.md has the form of a text.
     )
 }
 
-fn read(private: bool) -> i32 {
+fn read(rt: &impl Host, private: bool) -> i32 {
     let mut store = files::shelf_room();
-    let input = files::input(false, &mut store);
+    let input = files::input(rt, false, &mut store);
     if input.failed {
         return status::FAILED;
     }
     let shelf = octets::first(&store, input.count);
     if !form::well_formed(private, shelf) {
-        return shelves::refuse(private, shelf);
+        return shelves::refuse(rt, private, shelf);
     }
     let mut text = rooms::text();
     let n = put_entries(shelf, &mut text);
-    files::write(octets::first(&text, n))
+    files::write(rt, octets::first(&text, n))
 }
 
 fn put_entries(shelf: &[u8], text: &mut [u8]) -> usize {

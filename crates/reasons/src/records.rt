@@ -1,14 +1,14 @@
 // Why a record is refused.
+use console::errors::Errors;
 use console::{list, meanings, page, parts};
-use libc::STDERR_FILENO;
 use rules::{Wrong, record_rule};
 use text::octets;
 
 // Says that a record is refused, by which rule and where, and answers the exit status.
-pub fn refuse(number: u32, octets: &[u8]) -> i32 {
+pub fn refuse(rt: &impl Errors, number: u32, octets: &[u8]) -> i32 {
     let mut line = io::buffer();
     let n = put_line(number, octets, &mut line, 0);
-    io::write_all(STDERR_FILENO, octets::first(&line, n));
+    rt.say(octets::first(&line, n));
     meanings::exit_status(number)
 }
 

@@ -1,19 +1,19 @@
 // Why a shelf is not well formed.
 use crate::side;
+use console::errors::Errors;
 use console::{list, meanings, page};
-use libc::STDERR_FILENO;
 use rules::{Broken, shelf_rule};
 use text::octets;
 
 // Says that a shelf is refused, by which rule and where, and answers the exit status.
-pub fn refuse(private: bool, shelf: &[u8]) -> i32 {
+pub fn refuse(rt: &impl Errors, private: bool, shelf: &[u8]) -> i32 {
     let number = side::number(private);
     let mut line = io::buffer();
     let a = page::form(b"refused #: ", &[number as usize], &mut line, 0);
     let b = meanings::put(number, &mut line, a);
     let c = put(rules::of_shelf(private, shelf), &mut line, b);
     let d = page::put(b"\n", &mut line, c);
-    io::write_all(STDERR_FILENO, octets::first(&line, d));
+    rt.say(octets::first(&line, d));
     meanings::exit_status(number)
 }
 

@@ -1,24 +1,25 @@
 // Which shelf a command is about, the private one or the public one.
 use bits::number::{PRIVATE_SHELF, PUBLIC_SHELF};
+use console::errors::Errors;
 use console::{argv, list, page};
-use libc::STDERR_FILENO;
+use std::rt::Env;
 use text::octets;
 
 // Bad where the word KIND is neither `private` nor `public`.
-#[derive(Drop)]
+#[derive(Clone, Copy)]
 pub struct Side {
     pub private: bool,
     pub bad: bool,
 }
 
 // Reads the word KIND. `names` has the names of all words of the command.
-pub fn read(names: &[u8]) -> Side {
+pub fn read(rt: &(impl Env + Errors), names: &[u8]) -> Side {
     let mut word = io::buffer();
-    let n = os::arg(argv::place(names, b"--kind"), &mut word);
-    of_word(&word[..n])
+    let n = argv::read(rt, argv::place(rt, names, b"--kind"), &mut word);
+    of_word(rt, &word[..n])
 }
 
-fn of_word(word: &[u8]) -> Side {
+fn of_word(rt: &impl Errors, word: &[u8]) -> Side {
     match list::find(b"private\npublic\n", word) {
         0 => Side {
             private: true,
@@ -28,16 +29,16 @@ fn of_word(word: &[u8]) -> Side {
             private: false,
             bad: false,
         },
-        _ => other(word),
+        _ => other(rt, word),
     }
 }
 
-fn other(word: &[u8]) -> Side {
+fn other(rt: &impl Errors, word: &[u8]) -> Side {
     let mut line = io::buffer();
     let a = page::put(b"kuambyte: KIND is private or public, and '", &mut line, 0);
     let b = page::put(octets::first(word, 100), &mut line, a);
     let c = page::put(b"' is neither\n", &mut line, b);
-    io::write_all(STDERR_FILENO, octets::first(&line, c));
+    rt.say(octets::first(&line, c));
     Side {
         private: false,
         bad: true,

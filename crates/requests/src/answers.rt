@@ -12,7 +12,7 @@ use text::{numbers, octets, shown, words};
 const NUMBERS_ROOM: usize = 128;
 
 // What a line is answered.
-#[derive(Drop)]
+#[derive(Clone, Copy)]
 pub enum Answer {
     // A comment or a blank line has no answer.
     Nothing,

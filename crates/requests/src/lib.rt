@@ -1,4 +1,6 @@
 // Requests and answers as docs/REQUESTS.md gives them: from a line's octets to the octets of its answer.
+#![tactic(auto)]
+
 pub mod answers;
 mod check;
 mod checker;

@@ -1,9 +1,11 @@
 // Sends octet 01 by the toy profile of document 02, CR 3, and prints the 128 radio bits as packed octets in one line.
+#![tactic(auto)]
+
 ghost use Rattle.std.specs.Prelude.{◌<◌};
 
 use bits::count::{CodedBits, Terms};
 use bits::number::DONE;
-use libc::STDOUT_FILENO;
+use std::io::Error;
 
 fn digit(x: u8) -> u8
     requires { x < 16 }
@@ -15,30 +17,28 @@ fn digit(x: u8) -> u8
 }
 
 // The high half of an octet, and the low one.
-fn print_octet(x: u8) {
+fn print_octet(rt: &impl Print, x: u8) -> Result<(), Error> {
     let text = [digit(x >> 4), digit(x & 15)];
-    io::write_all(STDOUT_FILENO, &text);
+    rt.write_all(&text)
 }
 
-fn print_octets(octets: &[u8]) {
+fn print_octets(rt: &impl Print, octets: &[u8]) -> Result<(), Error> {
     let mut i = 0;
     while i < octets.len() {
         if 0 < i {
-            io::write_all(STDOUT_FILENO, b" ");
+            rt.write_all(b" ")?;
         }
-        print_octet(octets[i]);
+        print_octet(rt, octets[i])?;
         i += 1;
     }
-    io::write_all(STDOUT_FILENO, b"\n");
+    rt.write_all(b"\n")
 }
 
-fn print_refused(number: u32) {
-    io::write_all(STDOUT_FILENO, b"refused ");
-    io::print_decimal(STDOUT_FILENO, number as u64);
-    io::write_all(STDOUT_FILENO, b"\n");
+fn print_refused(rt: &impl Print, number: u32) -> Result<(), Error> {
+    println!(rt; "refused {number}")
 }
 
-fn main() {
+fn main(rt: HostRuntime) -> Result<(), Error> {
     let profile =
         b"\x00\x01\x00\x03\x00\x00\x00\x01\x00\x01\x00\x02\x00\x0e\x00\x01\x00\xff\x01\x00\x00\x00\xff\x01\xff\x00";
     let block = b"\x01";
@@ -56,10 +56,9 @@ fn main() {
         &mut out,
     );
     if sent.number != DONE {
-        print_refused(sent.number);
-        return;
+        return print_refused(&rt, sent.number);
     }
     let mut octets = [0u8; 16];
     bits::inner::pack(&out, &mut octets, 16);
-    print_octets(&octets);
+    print_octets(&rt, &octets)
 }

@@ -1,6 +1,7 @@
 // The command `shelf`: what is on a shelf, as a table.
 use bits::number::{DONE, PROFILE};
 use console::argv::Words;
+use console::host::Host;
 use console::{argv, counted, files, help, page, parts, status};
 use reasons::{shelves, side};
 use shelf::inner::form;
@@ -9,22 +10,23 @@ use text::octets;
 // The names of the words, in their order.
 const NAMES: [u8; 14] = *b"--kind\n--file\n";
 
-pub fn run(words: Words) -> i32 {
+pub fn run(rt: &impl Host, words: Words) -> i32 {
     if words.help {
-        return say(words);
+        return say(rt, words);
     }
-    if !argv::fits(&NAMES, 2, b"-o\n") {
-        return say(words);
+    if !argv::fits(rt, &NAMES, 2, b"-o\n") {
+        return say(rt, words);
     }
-    let side = side::read(&NAMES);
+    let side = side::read(rt, &NAMES);
     if side.bad {
-        return say(words);
+        return say(rt, words);
     }
-    read(side.private)
+    read(rt, side.private)
 }
 
-fn say(words: Words) -> i32 {
+fn say(rt: &impl Host, words: Words) -> i32 {
     help::say(
+        rt,
         words.help,
         b"usage: kuambyte shelf KIND FILE [-o FILE]
 
@@ -41,19 +43,19 @@ Words may also be given by name, in any order: --kind KIND --file FILE.
     )
 }
 
-fn read(private: bool) -> i32 {
+fn read(rt: &impl Host, private: bool) -> i32 {
     let mut store = files::shelf_room();
-    let file = files::named(&NAMES, b"--file", &mut store);
+    let file = files::named(rt, &NAMES, b"--file", &mut store);
     if file.failed {
         return status::FAILED;
     }
     let octets = octets::first(&store, file.count);
     if !form::well_formed(private, octets) {
-        return shelves::refuse(private, octets);
+        return shelves::refuse(rt, private, octets);
     }
     let mut page = io::large_buffer();
     let n = put_table(octets, &mut page);
-    files::write(octets::first(&page, n))
+    files::write(rt, octets::first(&page, n))
 }
 
 fn put_table(octets: &[u8], page: &mut [u8]) -> usize {

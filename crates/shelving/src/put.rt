@@ -1,6 +1,8 @@
 // The command `put`: a private shelf with a record of a tenant on it.
 use bits::number::{DONE, FULL_SHELF};
 use console::argv::Words;
+use console::errors::Errors;
+use console::host::Host;
 use console::{argv, counted, files, help, meanings, page, parts, status};
 use hosted::asked::Parameters;
 use hosted::{asked, refusal};
@@ -10,22 +12,23 @@ use text::octets;
 // The names of the words, in their order.
 const NAMES: [u8; 29] = *b"--private\n--tenant\n--profile\n";
 
-pub fn run(words: Words) -> i32 {
+pub fn run(rt: &impl Host, words: Words) -> i32 {
     if words.help {
-        return say(words);
+        return say(rt, words);
     }
-    if !argv::fits(&NAMES, 3, b"-o\n") {
-        return say(words);
+    if !argv::fits(rt, &NAMES, 3, b"-o\n") {
+        return say(rt, words);
     }
-    let asked = asked::for_lookup(&NAMES);
+    let asked = asked::for_lookup(rt, &NAMES);
     if asked.bad {
-        return say(words);
+        return say(rt, words);
     }
-    read(asked)
+    read(rt, asked)
 }
 
-fn say(words: Words) -> i32 {
+fn say(rt: &impl Host, words: Words) -> i32 {
     help::say(
+        rt,
         words.help,
         b"usage: kuambyte put PRIVATE TENANT PROFILE [-o FILE] < record > shelf
 
@@ -41,45 +44,45 @@ Words may also be given by name, in any order: --private PRIVATE --tenant TENANT
     )
 }
 
-fn read(asked: Parameters) -> i32 {
+fn read(rt: &impl Host, asked: Parameters) -> i32 {
     let mut store = files::shelf_room();
-    let file = files::named(&NAMES, b"--private", &mut store);
+    let file = files::named(rt, &NAMES, b"--private", &mut store);
     if file.failed {
         return status::FAILED;
     }
-    read_record(asked, octets::first(&store, file.count))
+    read_record(rt, asked, octets::first(&store, file.count))
 }
 
-fn read_record(asked: Parameters, private: &[u8]) -> i32 {
+fn read_record(rt: &impl Host, asked: Parameters, private: &[u8]) -> i32 {
     let mut store = files::shelf_room();
-    let input = files::input(false, &mut store);
+    let input = files::input(rt, false, &mut store);
     if input.failed {
         return status::FAILED;
     }
-    answer(asked, private, octets::first(&store, input.count))
+    answer(rt, asked, private, octets::first(&store, input.count))
 }
 
-fn answer(asked: Parameters, private: &[u8], record: &[u8]) -> i32 {
+fn answer(rt: &impl Host, asked: Parameters, private: &[u8], record: &[u8]) -> i32 {
     let mut shelf = files::shelf_room();
     let put = keeping::put_record(private, asked.tenant, asked.profile, record, &mut shelf);
     if put.number != DONE {
-        return refuse(put.number, asked, private, record);
+        return refuse(rt, put.number, asked, private, record);
     }
-    files::write(octets::first(&shelf, put.count))
+    files::write(rt, octets::first(&shelf, put.count))
 }
 
 // Each refusal says what to mend.
-fn refuse(number: u32, asked: Parameters, private: &[u8], record: &[u8]) -> i32 {
+fn refuse(rt: &impl Errors, number: u32, asked: Parameters, private: &[u8], record: &[u8]) -> i32 {
     match number {
-        2 => shelves::refuse(true, private),
-        5 | 6 => records::refuse(number, record),
-        26 => full(private, record),
-        _ => refusal::write(number, record, asked),
+        2 => shelves::refuse(rt, true, private),
+        5 | 6 => records::refuse(rt, number, record),
+        26 => full(rt, private, record),
+        _ => refusal::write(rt, number, record, asked),
     }
 }
 
 // How much is free, and how much the record takes.
-fn full(private: &[u8], record: &[u8]) -> i32 {
+fn full(rt: &impl Errors, private: &[u8], record: &[u8]) -> i32 {
     let count = parts::two_octets(private, 0);
     let mut line = io::buffer();
     let a = page::put(b"refused 26: ", &mut line, 0);
@@ -94,5 +97,5 @@ fn full(private: &[u8], record: &[u8]) -> i32 {
         &mut line,
         b,
     );
-    refusal::say(FULL_SHELF, octets::first(&line, c))
+    refusal::say(rt, FULL_SHELF, octets::first(&line, c))
 }

@@ -1,6 +1,8 @@
 // The command `remove`: a private shelf without a record of a tenant.
 use bits::number::{DONE, NO_RECORD};
 use console::argv::Words;
+use console::errors::Errors;
+use console::host::Host;
 use console::{argv, files, help, page, status};
 use hosted::asked::Parameters;
 use hosted::{asked, refusal};
@@ -10,22 +12,23 @@ use text::octets;
 // The names of the words, in their order.
 const NAMES: [u8; 29] = *b"--private\n--tenant\n--profile\n";
 
-pub fn run(words: Words) -> i32 {
+pub fn run(rt: &impl Host, words: Words) -> i32 {
     if words.help {
-        return say(words);
+        return say(rt, words);
     }
-    if !argv::fits(&NAMES, 3, b"-o\n") {
-        return say(words);
+    if !argv::fits(rt, &NAMES, 3, b"-o\n") {
+        return say(rt, words);
     }
-    let asked = asked::for_lookup(&NAMES);
+    let asked = asked::for_lookup(rt, &NAMES);
     if asked.bad {
-        return say(words);
+        return say(rt, words);
     }
-    read(asked)
+    read(rt, asked)
 }
 
-fn say(words: Words) -> i32 {
+fn say(rt: &impl Host, words: Words) -> i32 {
     help::say(
+        rt,
         words.help,
         b"usage: kuambyte remove PRIVATE TENANT PROFILE [-o FILE] > shelf
 
@@ -41,34 +44,34 @@ Words may also be given by name, in any order: --private PRIVATE --tenant TENANT
     )
 }
 
-fn read(asked: Parameters) -> i32 {
+fn read(rt: &impl Host, asked: Parameters) -> i32 {
     let mut store = files::shelf_room();
-    let file = files::named(&NAMES, b"--private", &mut store);
+    let file = files::named(rt, &NAMES, b"--private", &mut store);
     if file.failed {
         return status::FAILED;
     }
-    answer(asked, octets::first(&store, file.count))
+    answer(rt, asked, octets::first(&store, file.count))
 }
 
-fn answer(asked: Parameters, private: &[u8]) -> i32 {
+fn answer(rt: &impl Host, asked: Parameters, private: &[u8]) -> i32 {
     let mut shelf = files::shelf_room();
     let removed = keeping::remove_record(private, asked.tenant, asked.profile, &mut shelf);
     if removed.number != DONE {
-        return refuse(removed.number, asked, private);
+        return refuse(rt, removed.number, asked, private);
     }
-    files::write(octets::first(&shelf, removed.count))
+    files::write(rt, octets::first(&shelf, removed.count))
 }
 
-fn refuse(number: u32, asked: Parameters, private: &[u8]) -> i32 {
+fn refuse(rt: &impl Errors, number: u32, asked: Parameters, private: &[u8]) -> i32 {
     match number {
-        2 => shelves::refuse(true, private),
-        4 => absent(asked),
-        _ => refusal::write(number, b"", asked),
+        2 => shelves::refuse(rt, true, private),
+        4 => absent(rt, asked),
+        _ => refusal::write(rt, number, b"", asked),
     }
 }
 
 // Of a shelf alone, 4 is for the tenant's own record.
-fn absent(asked: Parameters) -> i32 {
+fn absent(rt: &impl Errors, asked: Parameters) -> i32 {
     let mut line = io::buffer();
     let n = page::form(
         b"refused 4: the private shelf has no record of tenant # and profile #; kuambyte shelf private FILE lists what it has\n",
@@ -76,5 +79,5 @@ fn absent(asked: Parameters) -> i32 {
         &mut line,
         0,
     );
-    refusal::say(NO_RECORD, octets::first(&line, n))
+    refusal::say(rt, NO_RECORD, octets::first(&line, n))
 }

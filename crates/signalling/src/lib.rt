@@ -1,49 +1,52 @@
 // The commands of control words. Here is `control`: a control word is sent, or what was sent of one is received.
+#![tactic(auto)]
+
 pub mod near;
 mod receive;
 mod refusal;
 mod send;
 
 use console::argv::Words;
+use console::host::Host;
 use console::{argv, help, list, page};
-use libc::STDERR_FILENO;
 use text::octets;
 
 // The names of the words. The second or the third stands behind KIND, by what that is.
 const NAMES: [u8; 23] = *b"--kind\n--bits\n--length\n";
 
-pub fn run(words: Words) -> i32 {
+pub fn run(rt: &impl Host, words: Words) -> i32 {
     if words.help {
-        return say(words);
+        return say(rt, words);
     }
     let mut word = io::buffer();
-    let n = os::arg(argv::place(&NAMES, b"--kind"), &mut word);
-    of_kind(words, &word[..n])
+    let n = argv::read(rt, argv::place(rt, &NAMES, b"--kind"), &mut word);
+    of_kind(rt, words, &word[..n])
 }
 
-fn of_kind(words: Words, kind: &[u8]) -> i32 {
+fn of_kind(rt: &impl Host, words: Words, kind: &[u8]) -> i32 {
     match list::find(b"send\nreceive\n", kind) {
-        0 => send::run(words),
-        1 => receive::run(words),
-        _ => other(words, kind),
+        0 => send::run(rt, words),
+        1 => receive::run(rt, words),
+        _ => other(rt, words, kind),
     }
 }
 
 // A word that is neither, or is missing.
-fn other(words: Words, kind: &[u8]) -> i32 {
-    if !argv::fits(&NAMES, 1, b"--text\n-o\n") {
-        return say(words);
+fn other(rt: &impl Host, words: Words, kind: &[u8]) -> i32 {
+    if !argv::fits(rt, &NAMES, 1, b"--text\n-o\n") {
+        return say(rt, words);
     }
     let mut line = io::buffer();
     let a = page::put(b"kuambyte: KIND is send or receive, and '", &mut line, 0);
     let b = page::put(octets::first(kind, 100), &mut line, a);
     let c = page::put(b"' is neither\n", &mut line, b);
-    io::write_all(STDERR_FILENO, octets::first(&line, c));
-    say(words)
+    rt.say(octets::first(&line, c));
+    say(rt, words)
 }
 
-fn say(words: Words) -> i32 {
+fn say(rt: &impl Host, words: Words) -> i32 {
     help::say(
+        rt,
         words.help,
         b"usage: kuambyte control send BITS | receive LENGTH [--text] [-o FILE]
 

@@ -4,29 +4,31 @@ ghost use Rattle.std.specs.Prelude.{◌≡◌, length};
 use crate::{refusal, send};
 use bits::number::DONE;
 use console::argv::Words;
+use console::errors::Errors;
+use console::host::Host;
 use console::{argv, files, help, page, parts, status};
-use libc::STDERR_FILENO;
 use text::octets;
 
 // The name of the one word.
 const NAMES: [u8; 9] = *b"--length\n";
 
-pub fn run(words: Words) -> i32 {
+pub fn run(rt: &impl Host, words: Words) -> i32 {
     if words.help {
-        return say(words);
+        return say(rt, words);
     }
-    if !argv::fits(&NAMES, 1, b"--text\n-o\n") {
-        return say(words);
+    if !argv::fits(rt, &NAMES, 1, b"--text\n-o\n") {
+        return say(rt, words);
     }
-    let d = argv::read_number(&NAMES, b"--length", usize::MAX);
+    let d = argv::read_number(rt, &NAMES, b"--length", usize::MAX);
     if d.bad {
-        return say(words);
+        return say(rt, words);
     }
-    read(words.text, d.value)
+    read(rt, words.text, d.value)
 }
 
-fn say(words: Words) -> i32 {
+fn say(rt: &impl Host, words: Words) -> i32 {
     help::say(
+        rt,
         words.help,
         b"usage: kuambyte nearest LENGTH [--text] [-o FILE] < streams > word
 
@@ -59,33 +61,33 @@ fn word_room() -> [u8; 129]
     [0; 129]
 }
 
-fn read(text: bool, d: usize) -> i32 {
+fn read(rt: &impl Host, text: bool, d: usize) -> i32 {
     let mut heard = heard_room();
-    let input = files::input(text, &mut heard);
+    let input = files::input(rt, text, &mut heard);
     if input.failed {
         return status::FAILED;
     }
-    answer(text, d, octets::first(&heard, input.count))
+    answer(rt, text, d, octets::first(&heard, input.count))
 }
 
-fn answer(text: bool, d: usize, heard: &[u8]) -> i32 {
+fn answer(rt: &impl Host, text: bool, d: usize, heard: &[u8]) -> i32 {
     let mut word = word_room();
     let found = nearest::nearest_word(d, heard, &mut word);
     if found.number != DONE {
-        return refusal::of_streams(found.number, d, heard.len());
+        return refusal::of_streams(rt, found.number, d, heard.len());
     }
-    let ended = send::write(text, found.count, &mut word);
+    let ended = send::write(rt, text, found.count, &mut word);
     if ended == status::DONE {
-        note(found.differences, parts::times(3, d));
+        note(rt, found.differences, parts::times(3, d));
     }
     ended
 }
 
 // There is a nearest word to any streams; how far it is tells how much to trust it.
-fn note(differences: usize, places: usize) {
+fn note(rt: &impl Errors, differences: usize, places: usize) {
     let mut line = io::buffer();
     let n = put_note(differences, places, &mut line);
-    io::write_all(STDERR_FILENO, octets::first(&line, n));
+    rt.say(octets::first(&line, n));
 }
 
 fn put_note(differences: usize, places: usize, line: &mut [u8]) -> usize {

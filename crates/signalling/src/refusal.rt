@@ -1,30 +1,30 @@
 // A refusal of a control word: its one line on standard error, and the exit status.
 use bits::number::PARAMETER;
+use console::errors::Errors;
 use console::{meanings, page, parts};
-use libc::STDERR_FILENO;
 use text::octets;
 
 // Of a word of so many bits that is to be sent.
-pub fn of_word(number: u32, length: usize) -> i32 {
+pub fn of_word(rt: &impl Errors, number: u32, length: usize) -> i32 {
     let mut line = io::buffer();
     let a = begin(number, &mut line);
     let b = word_hint(number, length, &mut line, a);
-    end(number, &mut line, b)
+    end(rt, number, &mut line, b)
 }
 
 // Of so many bits that a word of d bits is said to be sent as.
-pub fn of_bits(number: u32, d: usize, received: usize) -> i32 {
+pub fn of_bits(rt: &impl Errors, number: u32, d: usize, received: usize) -> i32 {
     let mut line = io::buffer();
     let a = begin(number, &mut line);
     let b = bits_hint(number, d, received, &mut line, a);
-    end(number, &mut line, b)
+    end(rt, number, &mut line, b)
 }
 
 // Of so many bits that are said to be the three streams of a word of d bits.
-pub fn of_streams(number: u32, d: usize, received: usize) -> i32 {
+pub fn of_streams(rt: &impl Errors, number: u32, d: usize, received: usize) -> i32 {
     let mut line = io::buffer();
     let n = put_streams(number, d, received, &mut line);
-    end(number, &mut line, n)
+    end(rt, number, &mut line, n)
 }
 
 // Of streams, 8 is for how long they are, and not for what a word is sent with.
@@ -43,9 +43,9 @@ fn begin(number: u32, line: &mut [u8]) -> usize {
 }
 
 // Says the line. The exit status is the number.
-fn end(number: u32, line: &mut [u8], at: usize) -> i32 {
+fn end(rt: &impl Errors, number: u32, line: &mut [u8], at: usize) -> i32 {
     let n = page::put(b"\n", line, at);
-    io::write_all(STDERR_FILENO, octets::first(line, n));
+    rt.say(octets::first(line, n));
     meanings::exit_status(number)
 }
 

@@ -1,11 +1,15 @@
 // Requests from standard input, one to a line, and their answers to standard output.
+#![tactic(auto)]
+
 ghost use Rattle.std.specs.Prelude.{◌≤◌, ◌<◌, ◌≡◌, length};
+ghost use Rattle.std.specs.Io.{ReadsAtMost};
 ghost use Rattle.stream.specs.Room.{Stands};
 ghost use Rattle.requests.specs.Room.{Roomy};
 
-use console::status;
-use libc::{STDIN_FILENO, STDOUT_FILENO};
+use console::errors::Errors;
+use console::{errors, status};
 use requests::{answers, lines};
+use std::io::{Error, Read};
 use text::octets;
 
 // The octets of the longest line, its newline not counted.
@@ -22,7 +26,7 @@ const LENT_ROOM: usize = 140_000;
 const OUT_ROOM: usize = 400_000;
 
 // How far reading has come.
-#[derive(Drop)]
+#[derive(Clone, Copy)]
 pub struct Reading {
     // Octets of the line begun that are held.
     pub held: usize,
@@ -36,7 +40,7 @@ pub struct Reading {
     pub failed: bool,
 }
 
-pub fn replay() -> i32 {
+pub fn replay(rt: &(impl Input + Print + Errors)) -> i32 {
     let mut line = [0u8; LINE_ROOM];
     let mut records = [0u8; RECORDS_ROOM];
     let mut bits = [0u8; BITS_ROOM];
@@ -44,6 +48,8 @@ pub fn replay() -> i32 {
     let mut chunk = io::large_buffer();
     let mut out = [0u8; OUT_ROOM];
     read_all(
+        rt,
+        &mut rt.reader(),
         &mut line,
         &mut records,
         &mut bits,
@@ -56,6 +62,8 @@ pub fn replay() -> i32 {
 // A proved loop has to end, and nothing says that the input does. So the turns are counted down
 // from a number that no run uses up.
 fn read_all(
+    rt: &(impl Print + Errors),
+    input: &mut impl Read,
     line: &mut [u8],
     records: &mut [u8],
     bits: &mut [u8],
@@ -74,7 +82,7 @@ fn read_all(
     };
     let mut turns = u64::MAX;
     while turns > 0 {
-        reading = read_some(line, records, bits, lent, chunk, out, reading);
+        reading = read_some(rt, input, line, records, bits, lent, chunk, out, reading);
         if reading.done {
             return ended(reading.failed);
         }
@@ -93,6 +101,8 @@ fn ended(failed: bool) -> i32 {
 
 // Reads once, and answers each line that has ended.
 fn read_some(
+    rt: &(impl Print + Errors),
+    input: &mut impl Read,
     line: &mut [u8],
     records: &mut [u8],
     bits: &mut [u8],
@@ -104,19 +114,22 @@ fn read_some(
     requires { (0 < length chunk.old) × Stands reading line.old lent.old out.old }
     ensures { Stands result line.old lent.old out.old }
 {
-    let got = libc::read(STDIN_FILENO, chunk);
-    let n = received(got, chunk);
-    let after = answer_lines(&chunk[0..n], line, records, bits, lent, out, reading);
-    finish(got, out, after)
+    let got = input.read(chunk);
+    let n = received(&got, chunk);
+    let after = answer_lines(rt, &chunk[0..n], line, records, bits, lent, out, reading);
+    finish(rt, got, out, after)
 }
 
 // How many octets came. The end of the input ends the last line, as a newline would.
-fn received(got: isize, chunk: &mut [u8]) -> usize
-    requires { 0 < length chunk.old }
+fn received(got: &Result<usize, Error>, chunk: &mut [u8]) -> usize
+    requires length { 0 < length chunk.old }
+    requires count { ReadsAtMost got.now chunk.old }
     ensures { result ≤ length chunk.old }
 {
-    if got > 0 {
-        return io::count(got, chunk);
+    if let Ok(n) = got {
+        if *n > 0 {
+            return *n;
+        }
     }
     chunk[0] = b'\n';
     1
@@ -124,29 +137,45 @@ fn received(got: isize, chunk: &mut [u8]) -> usize
 
 // Writes what waits before the next read, so that who types requests sees each answer at once. A
 // read that failed is reported behind the answers.
-fn finish(got: isize, out: &[u8], reading: Reading) -> Reading
+fn finish(
+    rt: &(impl Print + Errors),
+    got: Result<usize, Error>,
+    out: &[u8],
+    reading: Reading,
+) -> Reading
     requires { reading.waiting ≤ length out.now }
     ensures { (result.held ≡ reading.held) × (result.waiting ≡ 0) }
 {
-    let mut after = flush(out, reading);
+    let mut after = flush(rt, out, reading);
     if after.done {
         return after;
     }
-    after.failed = has_failed(got);
-    after.done = got <= 0;
+    after.failed = has_failed(rt, &got);
+    after.done = is_last(&got);
     after
 }
 
 // Whether reading failed; the reason is said.
-fn has_failed(got: isize) -> bool {
-    if got < 0 {
-        os::fail(b"kuambyte: standard input");
+fn has_failed(rt: &impl Errors, got: &Result<usize, Error>) -> bool {
+    match got {
+        Ok(_) => false,
+        Err(why) => {
+            errors::fail(rt, b"kuambyte: standard input", why);
+            true
+        }
     }
-    got < 0
+}
+
+fn is_last(got: &Result<usize, Error>) -> bool {
+    match got {
+        Ok(n) => *n == 0,
+        Err(_) => true,
+    }
 }
 
 // Answers each line that ends in the chunk, and holds what stands behind the last.
 fn answer_lines(
+    rt: &(impl Print + Errors),
     chunk: &[u8],
     line: &mut [u8],
     records: &mut [u8],
@@ -164,7 +193,16 @@ fn answer_lines(
         if end == chunk.len() {
             return hold(&chunk[from..end], line, reading);
         }
-        reading = answer_piece(&chunk[from..end], line, records, bits, lent, out, reading);
+        reading = answer_piece(
+            rt,
+            &chunk[from..end],
+            line,
+            records,
+            bits,
+            lent,
+            out,
+            reading,
+        );
         if reading.done {
             return reading;
         }
@@ -189,6 +227,7 @@ fn hold(piece: &[u8], line: &mut [u8], mut reading: Reading) -> Reading
 
 // Answers the line that ends with a piece, and begins the next.
 fn answer_piece(
+    rt: &(impl Print + Errors),
     piece: &[u8],
     line: &mut [u8],
     records: &mut [u8],
@@ -200,7 +239,7 @@ fn answer_piece(
     requires { Stands reading line.old lent.old out.old }
     ensures { Stands result line.old lent.old out.old }
 {
-    let mut ready = with_room(lent, out, reading);
+    let mut ready = with_room(rt, lent, out, reading);
     if ready.done {
         return ready;
     }
@@ -245,27 +284,26 @@ fn answer_line(
 }
 
 // Makes room for one more answer.
-fn with_room(lent: &[u8], out: &[u8], reading: Reading) -> Reading
+fn with_room(rt: &(impl Print + Errors), lent: &[u8], out: &[u8], reading: Reading) -> Reading
     requires { (reading.waiting ≤ length out.now) × Roomy 0 lent.now out.now }
     ensures { (result.held ≡ reading.held) × Roomy result.waiting lent.now out.now }
 {
     if out.len() - reading.waiting < answers::room(lent) {
-        return flush(out, reading);
+        return flush(rt, out, reading);
     }
     reading
 }
 
-fn flush(out: &[u8], mut reading: Reading) -> Reading
+fn flush(rt: &(impl Print + Errors), out: &[u8], mut reading: Reading) -> Reading
     requires { reading.waiting ≤ length out.now }
     ensures { (result.held ≡ reading.held) × (result.waiting ≡ 0) }
 {
     let n = reading.waiting;
     reading.waiting = 0;
-    if io::write_all(STDOUT_FILENO, &out[0..n]) {
-        return reading;
+    if let Err(why) = rt.write_all(&out[0..n]) {
+        errors::fail(rt, b"kuambyte: standard output", &why);
+        reading.done = true;
+        reading.failed = true;
     }
-    os::fail(b"kuambyte: standard output");
-    reading.done = true;
-    reading.failed = true;
     reading
 }

@@ -1,5 +1,5 @@
 // Faults: why a line is answered `error`.
-#[derive(Drop)]
+#[derive(Clone, Copy)]
 pub enum Fault {
     Request,
     Words,

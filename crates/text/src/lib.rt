@@ -1,4 +1,6 @@
 // Text of requests and answers: words and what they hold, and numbers and octets as digits.
+#![tactic(auto)]
+
 pub mod faults;
 pub mod forms;
 pub mod numbers;

@@ -5,7 +5,7 @@ ghost use Rattle.text.specs.Digits.{digits_of};
 use crate::octets::{joined, put_one};
 
 // What the octets are.
-#[derive(Drop)]
+#[derive(Clone, Copy)]
 pub enum Shown {
     // A decimal digit for each octet.
     Places,

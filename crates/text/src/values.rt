@@ -12,7 +12,7 @@ const BLOCK_ROOM: usize = 4_096;
 
 // What a word holds, or why it holds nothing. Of a word of bits or octets they go into a store that
 // is lent, whose length is the most that there is room for, and the value is how many they are.
-#[derive(Drop)]
+#[derive(Clone, Copy)]
 pub enum Parsed {
     Value(usize),
     Bad(Fault),

@@ -36,7 +36,7 @@ pub fn nth(list: &[u8], k: usize) -> &[u8]
 }
 
 // An entry of a list: how many stand before it, where it begins, and where it ends.
-#[derive(Drop)]
+#[derive(Clone, Copy)]
 pub struct Found {
     pub place: usize,
     pub from: usize,
