@@ -2,7 +2,6 @@
 #![tactic(auto)]
 
 ghost use Rattle.std.specs.Prelude.{◌≤◌, ◌<◌, ◌≡◌, length};
-ghost use Rattle.std.specs.Io.{ReadsAtMost};
 ghost use Rattle.stream.specs.Room.{Stands};
 ghost use Rattle.requests.specs.Room.{Roomy};
 
@@ -122,13 +121,12 @@ fn read_some(
 
 // How many octets came. The end of the input ends the last line, as a newline would.
 fn received(got: &Result<usize, Error>, chunk: &mut [u8]) -> usize
-    requires length { 0 < length chunk.old }
-    requires count { ReadsAtMost got.now chunk.old }
+    requires { 0 < length chunk.old }
     ensures { result ≤ length chunk.old }
 {
     if let Ok(n) = got {
         if *n > 0 {
-            return *n;
+            return octets::least(*n, chunk.len());
         }
     }
     chunk[0] = b'\n';
