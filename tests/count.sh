@@ -39,7 +39,8 @@ emulated() {
     if [ "$machine" = x86_64 ]; then
         "$@"
     else
-        "$tools/bin/qemu-x86_64" "$tools/lib/ld-linux-x86-64.so.2" --library-path "$tools/lib" "$@"
+        elsewhere=$kit/on/$machine/toolchain
+        "$elsewhere/bin/qemu-x86_64" "$elsewhere/lib/ld-linux-x86-64.so.2" --library-path "$elsewhere/lib" "$@"
     fi
 }
 
