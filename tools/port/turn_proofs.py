@@ -122,9 +122,6 @@ class Names:
         self.places = {}
         for place, new in zip(table["places"], table["places_by_name"]):
             self.places.setdefault(plain(place[0]), new)
-        self.params = {}
-        for callee, params in table["params"].items():
-            self.params[plain(callee.split("::")[-1])] = params
         self.callee = {new: callee for _, _, (_, new), callee, _ in table["places"] if callee}
         self.params_of = table["params"]
 
