@@ -12,19 +12,19 @@ use checking::Verdict;
 pub fn kuambyte_code_block(profile: &[u8], z: usize, places: &[u8], out: &mut [u8]) -> Written
     ensures { BlockCoded profile.now z places.now out.old result out.new }
 {
-    parity::code_block(profile, z, places, out)
+    Written::from(parity::code_block(profile, z, places, out))
 }
 
 pub fn kuambyte_check_word(profile: &[u8], z: usize, word: &[u8], checker: u32) -> Verdict
     ensures { WordChecked profile.now z word.now result }
 {
-    checking::check_word(profile, z, word, checker::of(checker))
+    Verdict::from(checking::check_word(profile, z, word, checker::of(checker)))
 }
 
 pub fn kuambyte_row_sums(profile: &[u8], z: usize, word: &[u8], out: &mut [u8]) -> Written
     ensures { RowsSummed profile.now z word.now out.old result out.new }
 {
-    checking::row_sums(profile, z, word, out)
+    Written::from(checking::row_sums(profile, z, word, out))
 }
 
 pub fn kuambyte_rate_match(
@@ -36,5 +36,5 @@ pub fn kuambyte_rate_match(
 ) -> Written
     ensures { RateMatched coded.now kind rv e out.old result out.new }
 {
-    matching::rate_match(coded, kind, rv, CodedBits(e), out)
+    Written::from(matching::rate_match(coded, kind, rv, CodedBits(e), out))
 }

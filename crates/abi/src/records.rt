@@ -5,31 +5,34 @@ ghost use Rattle.rules.specs.Promises.{RecordRule};
 ghost use Rattle.cutting.specs.Promises.{planned};
 ghost use Rattle.advice.specs.Promises.{LeastRoom};
 
-use advice::Least;
+use advice::Advised;
 use bits::count::Terms;
-use cutting::Plan;
+use cutting::Planned;
 use rules::Wrong;
 
 pub fn kuambyte_judge(profile: &[u8]) -> u32
     ensures { result ≡ judged profile.now }
 {
-    profile::judge(profile)
+    match profile::judge(profile) {
+        Ok(()) => 0,
+        Err(refusal) => refusal.number(),
+    }
 }
 
 pub fn kuambyte_rule_of_record(octets: &[u8]) -> Wrong
     ensures { RecordRule octets.now result }
 {
-    rules::of_record(octets)
+    Wrong::from(rules::of_record(octets))
 }
 
-pub fn kuambyte_plan_block(profile: &[u8], edition: usize, octets: usize) -> Plan
+pub fn kuambyte_plan_block(profile: &[u8], edition: usize, octets: usize) -> Planned
     ensures { result ≡ planned profile.now edition octets }
 {
-    cutting::plan_block(profile, edition, octets)
+    Planned::from(cutting::plan_block(profile, edition, octets))
 }
 
-pub fn kuambyte_least_bits(profile: &[u8], octets: usize, terms: Terms) -> Least
+pub fn kuambyte_least_bits(profile: &[u8], octets: usize, terms: Terms) -> Advised
     ensures { LeastRoom profile.now octets terms result }
 {
-    advice::least_bits(profile, octets, terms)
+    Advised::from(advice::least_bits(profile, octets, terms))
 }

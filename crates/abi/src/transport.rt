@@ -7,7 +7,7 @@ ghost use Rattle.abi.specs.Promises.{Held, Nothing};
 use crate::blocks::checker;
 use crate::shelves::too_large;
 use bits::count::{CodedBits, Terms};
-use bits::number::{NO_RECORD, Written};
+use bits::number::{Refusal, Written};
 use checking::Verdict;
 
 pub fn kuambyte_send(
@@ -19,7 +19,7 @@ pub fn kuambyte_send(
 ) -> Written
     ensures { Sent profile.now block.now terms g out.old result out.new }
 {
-    coding::send(profile, block, terms, CodedBits(g), out)
+    Written::from(coding::send(profile, block, terms, CodedBits(g), out))
 }
 
 pub fn kuambyte_receive(
@@ -32,7 +32,7 @@ pub fn kuambyte_receive(
 ) -> Written
     ensures { Received profile.now a terms bits.now out.old result out.new }
 {
-    coding::receive(profile, a, terms, bits, checker::of(checker), out)
+    Written::from(coding::receive(profile, a, terms, bits, checker::of(checker), out))
 }
 
 pub fn kuambyte_hosted_send<'a>(
@@ -48,12 +48,9 @@ pub fn kuambyte_hosted_send<'a>(
     ensures { Held tenant profile (Nothing 4 out.old result out.new) (HostedSent private.now public.now tenant profile block.now terms g out.old result out.new) }
 {
     if too_large(tenant, profile) {
-        return Written {
-            number: NO_RECORD,
-            count: 0,
-        };
+        return Written::from(Err(Refusal::NoRecord));
     }
-    shelf::hosted_send(
+    Written::from(shelf::hosted_send(
         private,
         public,
         tenant as u16,
@@ -62,7 +59,7 @@ pub fn kuambyte_hosted_send<'a>(
         terms,
         CodedBits(g),
         out,
-    )
+    ))
 }
 
 pub fn kuambyte_hosted_receive<'a>(
@@ -79,12 +76,9 @@ pub fn kuambyte_hosted_receive<'a>(
     ensures { Held tenant profile (Nothing 4 out.old result out.new) (HostedReceived private.now public.now tenant profile a terms bits.now out.old result out.new) }
 {
     if too_large(tenant, profile) {
-        return Written {
-            number: NO_RECORD,
-            count: 0,
-        };
+        return Written::from(Err(Refusal::NoRecord));
     }
-    shelf::hosted_receive(
+    Written::from(shelf::hosted_receive(
         private,
         public,
         tenant as u16,
@@ -94,7 +88,7 @@ pub fn kuambyte_hosted_receive<'a>(
         bits,
         checker::of(checker),
         out,
-    )
+    ))
 }
 
 pub fn kuambyte_hosted_check<'a>(
@@ -109,12 +103,9 @@ pub fn kuambyte_hosted_check<'a>(
     ensures { Held tenant profile (result ≡ record { number = 4; checks = false }) (HostedChecked private.now public.now tenant profile z word.now result) }
 {
     if too_large(tenant, profile) {
-        return Verdict {
-            number: NO_RECORD,
-            checks: false,
-        };
+        return Verdict::from(Err(Refusal::NoRecord));
     }
-    shelf::hosted_check(
+    Verdict::from(shelf::hosted_check(
         private,
         public,
         tenant as u16,
@@ -122,5 +113,5 @@ pub fn kuambyte_hosted_check<'a>(
         z,
         word,
         checker::of(checker),
-    )
+    ))
 }

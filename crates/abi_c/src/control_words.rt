@@ -3,7 +3,7 @@ ghost use Rattle.control.specs.Promises.{WordCoded, StreamsMatched, WordSent, St
 ghost use Rattle.nearest.specs.Promises.{WordFound};
 
 use bits::number::Written;
-use nearest::Closest;
+use nearest::Found;
 
 #[unsafe(no_mangle)]
 pub extern "C" fn kuambyte_code_word(word: &[u8], out: &mut [u8]) -> Written
@@ -39,7 +39,7 @@ pub extern "C" fn kuambyte_streams_of(d: usize, bits: &[u8], out: &mut [u8]) -> 
 }
 
 #[unsafe(no_mangle)]
-pub extern "C" fn kuambyte_nearest_word(d: usize, heard: &[u8], out: &mut [u8]) -> Closest
+pub extern "C" fn kuambyte_nearest_word(d: usize, heard: &[u8], out: &mut [u8]) -> Found
     ensures { WordFound d heard.now out.old result out.new }
 {
     abi::control_words::kuambyte_nearest_word(d, heard, out)

@@ -5,9 +5,9 @@ ghost use Rattle.rules.specs.Promises.{RecordRule};
 ghost use Rattle.cutting.specs.Promises.{planned};
 ghost use Rattle.advice.specs.Promises.{LeastRoom};
 
-use advice::Least;
+use advice::Advised;
 use bits::count::Terms;
-use cutting::Plan;
+use cutting::Planned;
 use rules::Wrong;
 
 #[unsafe(no_mangle)]
@@ -25,14 +25,14 @@ pub extern "C" fn kuambyte_rule_of_record(octets: &[u8]) -> Wrong
 }
 
 #[unsafe(no_mangle)]
-pub extern "C" fn kuambyte_plan_block(profile: &[u8], edition: usize, octets: usize) -> Plan
+pub extern "C" fn kuambyte_plan_block(profile: &[u8], edition: usize, octets: usize) -> Planned
     ensures { result ≡ planned profile.now edition octets }
 {
     abi::records::kuambyte_plan_block(profile, edition, octets)
 }
 
 #[unsafe(no_mangle)]
-pub extern "C" fn kuambyte_least_bits(profile: &[u8], octets: usize, terms: Terms) -> Least
+pub extern "C" fn kuambyte_least_bits(profile: &[u8], octets: usize, terms: Terms) -> Advised
     ensures { LeastRoom profile.now octets terms result }
 {
     abi::records::kuambyte_least_bits(profile, octets, terms)

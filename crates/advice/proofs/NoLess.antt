@@ -29,7 +29,7 @@ use Rattle.coding.proofs.Shares.{share-first, share-last}
 use Rattle.coding.proofs.RequestNumber.{cut-passed}
 use Rattle.advice.specs.Least.{has_room, allocations, room_at, some_room, least_bits}
 use Rattle.advice.specs.Promises.{least_number, LeastRoom}
-use Rattle.advice.specs.declared.Least.{Least}
+use Rattle.advice.specs.declared.Advised.{Advised}
 use Rattle.advice.proofs.Numbers.{least_first, least-last, right}
 
 -- ---- what the number says
@@ -138,7 +138,7 @@ module _ (R : List ℕ) (octets : ℕ) (terms : Terms) where
 
   -- ---- the blocks with the larger share are no more than all blocks
 
-  pub larger_fewer : (r : Least) → LeastRoom R octets terms r → r.larger ≤ r.blocks
+  pub larger_fewer : (r : Advised) → LeastRoom R octets terms r → r.larger ≤ r.blocks
   unfolding spare
   larger_fewer r h =
       let c = blocks R terms.edition (block_bits octets) in
@@ -150,7 +150,7 @@ module _ (R : List ℕ) (octets : ℕ) (terms : Terms) where
       (λ d. omega (arith, h.larger, when_refused n ((symbol_places terms (least_bits R octets terms)).0 % c) 0 d))
 
   -- and what is told of the shares is each block's
-  pub told_shares : (r : Least) → LeastRoom R octets terms r → r.number ≡ 0 → (k : ℕ)
+  pub told_shares : (r : Advised) → LeastRoom R octets terms r → r.number ≡ 0 → (k : ℕ)
       → (k < r.larger → (share terms r.bits.0 r.blocks k).0 ≡ r.first.0) × (r.larger ≤ k → (share terms r.bits.0 r.blocks k).0 ≡ r.last.0)
   told_shares r h done k =
       let c = blocks R terms.edition (block_bits octets) in

@@ -19,9 +19,9 @@ use Rattle.coding.specs.Steps.Numbers.{cut_number}
 use Rattle.coding.proofs.Shares.{allocated}
 use Rattle.coding.proofs.RequestNumber.{cut-passed}
 use Rattle.advice.specs.Least.{some_room, least_bits}
-use Rattle.advice.specs.Promises.{least_number, LeastRoom}
-use Rattle.advice.specs.declared.Least.{Least}
-use Rattle.advice.specs.Steps.Counting.{refusal, places_for_all}
+use Rattle.advice.specs.Promises.{least_number, refusal, LeastRoom}
+use Rattle.advice.specs.declared.Advised.{Advised}
+use Rattle.advice.specs.Steps.Counting.{places_for_all}
 use Rattle.advice.proofs.Room.{some-room, no_room, least-is, spare-is}
 
 module _ (R : List ℕ) (octets : ℕ) (terms : Terms) where
@@ -36,13 +36,13 @@ module _ (R : List ℕ) (octets : ℕ) (terms : Terms) where
   unfolding cut_number least_number Refusals
   least-last e = last_part tests ((13, not (some_room R octets terms)) ∷ []) tt e
 
-  told-refused : (n : ℕ) → n ≡ least_number R octets terms → (n ≡ 0 → ⊥) → (r : Least) → r ≡ refusal n → LeastRoom R octets terms r
+  told-refused : (n : ℕ) → n ≡ least_number R octets terms → (n ≡ 0 → ⊥) → (r : Advised) → r ≡ refusal n → LeastRoom R octets terms r
   unfolding refusal
   told-refused n found h r e =
       let other : (v : ℕ) → 0 ≡ when_done (least_number R octets terms) v 0 = λ v. sym (when_refused (least_number R octets terms) v 0 (λ z. h (found ∙ z))) in
       rw e (record { number = found; bits = other _; blocks = other _; larger = other _; first = other _; last = other _ })
 
-  pub first-refused : (n : ℕ) → n ≡ cut_number R octets terms 0 → (n ≡ 0 → ⊥) → (r : Least) → r ≡ refusal n → LeastRoom R octets terms r
+  pub first-refused : (n : ℕ) → n ≡ cut_number R octets terms 0 → (n ≡ 0 → ⊥) → (r : Advised) → r ≡ refusal n → LeastRoom R octets terms r
   first-refused n found h = told-refused n (found ∙ sym (least_first (λ z. h (found ∙ z)))) h
 
   module _ (e : cut_number R octets terms 0 ≡ 0) where
@@ -55,11 +55,11 @@ module _ (R : List ℕ) (octets : ℕ) (terms : Terms) where
     abbrev all : ℕ
     all = places_for_all R (block_bits octets) terms
 
-    pub last-refused : 65536 / place_bits terms < all → (r : Least) → r ≡ refusal 13 → LeastRoom R octets terms r
+    pub last-refused : 65536 / place_bits terms < all → (r : Advised) → r ≡ refusal 13 → LeastRoom R octets terms r
     last-refused h =
         told-refused 13 (sym (least-last e ∙ applies 13 [] (ap not (no_room R octets terms cut right.usable.some h)))) (λ q. omega arith)
 
-    pub last_done : all ≤ 65536 / place_bits terms → (r : Least) → r.number ≡ 0 → r.bits.0 ≡ place_bits terms * all → r.blocks ≡ blocks R terms.edition (block_bits octets)
+    pub last_done : all ≤ 65536 / place_bits terms → (r : Advised) → r.number ≡ 0 → r.bits.0 ≡ place_bits terms * all → r.blocks ≡ blocks R terms.edition (block_bits octets)
         → r.larger ≡ all % blocks R terms.edition (block_bits octets)
         → r.first ≡ share terms r.bits.0 r.blocks 0 → r.last ≡ share terms r.bits.0 r.blocks (r.blocks - 1) → LeastRoom R octets terms r
     last_done h r number bits count more first last =

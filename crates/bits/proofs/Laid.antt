@@ -1,4 +1,4 @@
--- Octets laid over a list, and marks: their loops, and what stands in front then.
+-- Octets laid over a list: the loop, and what stands in front then.
 use mathlib.Core.Path.{◌≡◌, refl, sym, ap, ◌∙◌}
 use mathlib.Core.List.{List, ◌++◌}
 use Prim.Native.Nat.{ℕ, ◌+◌, ◌-◌, ◌≤◌, ◌<◌}
@@ -6,7 +6,7 @@ use native.Mathlib.Nat.{zero-add}
 use native.Mathlib.Omega.{arith}
 use lib.ListN.{length, get_or, take, drop, set, length-append, length-set, get_or-append}
 use lib.Seq.{get_or-set_same, get_or-set_other, get_or-append-add, get_or-drop, get_or-take, length-take-le, ext_get_or}
-use Rattle.bits.specs.Steps.Places.{Laid, Marked}
+use Rattle.bits.specs.Steps.Places.{Laid}
 use Rattle.bits.proofs.Lists.{length_part}
 use Rattle.bits.proofs.Ranges.{below_or, last_or}
 use Rattle.bits.proofs.Listed.{list_of, written}
@@ -56,19 +56,3 @@ laid-over s a b n h l w =
     (λ k m. ap (λ (i : ℕ). get_or b i 0) (sym (zero-add k)) ∙ w.inside k m ∙ ap f (zero-add k))
     (λ p m. w.above p (omega arith))
     ∙ ap (λ (x : List ℕ). x ++ drop n a) (sym (list_of n f (take n s) (length-take-le n s h) (λ k m. get_or-take n s k 0 m)))
-
--- ---- marks
-
-pub marked-none : (from : ℕ) (a : List ℕ) → Marked from from a a
-marked-none from a = record { len = refl; below = λ p h. refl; marked = λ p h k. absurd (omega arith) }
-
-pub marked_more : (from p : ℕ) (a b : List ℕ) → from ≤ p → p < length a → Marked from p a b → Marked from (p + 1) a (set b p 2)
-marked_more from p a b h l w =
-    record {
-      len = length-set b p 2 ∙ w.len;
-      below = λ k q. get_or-set_other b p k 2 0 (λ e. omega arith) ∙ w.below k q;
-      marked = λ k q o.
-          last_or k p (omega arith)
-          (λ under. get_or-set_other b p k 2 0 (λ e. omega arith) ∙ w.marked k q under)
-          (λ e. ap (λ (i : ℕ). get_or (set b p 2) i 0) e ∙ get_or-set_same b p 2 0 (omega (arith, w.len)));
-    }

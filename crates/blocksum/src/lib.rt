@@ -3,24 +3,17 @@
 
 pub mod inner;
 
+ghost use Rattle.checksum.specs.Promises.{summed};
 ghost use Rattle.blocksum.specs.Promises.{OfBlockBits};
 
-use bits::number::{DONE, NO_BIT};
-use checksum::Sum;
+use bits::number::Refusal;
 
 // The 24B checksum of bits that stand one to an octet.
-pub fn of_block_bits(bits: &[u8]) -> Sum
-    ensures { OfBlockBits bits.now result }
+pub fn of_block_bits(bits: &[u8]) -> Result<u32, Refusal>
+    ensures { OfBlockBits bits.now (summed result) }
 {
     if bits::inner::some_over(1, bits) {
-        return Sum {
-            number: NO_BIT,
-            value: 0,
-        };
+        return Err(Refusal::NoBit);
     }
-    let value = inner::sum(bits);
-    Sum {
-        number: DONE,
-        value,
-    }
+    Ok(inner::sum(bits))
 }

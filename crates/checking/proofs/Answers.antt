@@ -1,6 +1,6 @@
 -- What the public calls answer, by their tests.
 use mathlib.Core.Path.{◌≡◌, refl, sym, ap, ◌∙◌}
-use mathlib.Core.Bool.{Bool, true, false}
+use mathlib.Core.Bool.{Bool, true, false, cond}
 use mathlib.Core.List.{List, [], ◌∷◌, ◌++◌}
 use Prim.Native.Nat.{ℕ, ◌*◌, ◌≤◌, ◌<◌}
 use native.Mathlib.Nat.{mul-le-mul}
@@ -10,7 +10,9 @@ use lib.ListN.{length, drop}
 use borrow.Author.Tests.{lt-ltb, le-ltb, ltb-false}
 use Rattle.bits.specs.Bits.{some_over}
 use Rattle.bits.specs.Numbers.{answered}
-use Rattle.bits.proofs.Answers.{applies, passes, passed, none_left, Refusals, first_part, last_part, when-done, when_refused}
+use Rattle.bits.specs.Refusals.{refusal_number}
+use Rattle.bits.specs.declared.number.Refusal.{Refusal}
+use Rattle.bits.proofs.Answers.{applies, passes, passed, none_left, Refusals, first_part, last_part, when-done, when_refused, refusal-numbered}
 use Rattle.bits.proofs.Ranges.{equal_or}
 use Rattle.profile.specs.Record.{rows, columns}
 use Rattle.profile.specs.Promises.{judged}
@@ -43,22 +45,13 @@ module _ (R : List ℕ) (z' : ℕ) (word : List ℕ) where
   abbrev eight : List (ℕ × Bool)
   eight = (8, unfit R z' (columns R) word) ∷ []
 
-  module _ (j : ℕ) (found : j ≡ judged R) where
-    pub fit-judged : (j ≡ 0 → ⊥) → j ≡ fit_number R z' word
-    unfolding fit_number
-    fit-judged h = found ∙ sym (judged-first R eight (λ q. h (found ∙ q)))
+  pub fit_unjudged : (e : Refusal) → refusal_number e ≡ judged R → refusal_number e ≡ fit_number R z' word
+  unfolding fit_number
+  fit_unjudged e q = q ∙ sym (judged-first R eight (λ n. refusal-numbered e (q ∙ n)))
 
-    module _ (done : j ≡ 0) (c : ℕ) (c-is : c ≡ columns R) (u : Bool) (fit : u ≡ unfit R z' c word) where
-      fit_word : {b : Bool} → u ≡ b → unfit R z' (columns R) word ≡ b
-      fit_word e = ap (λ (x : ℕ). unfit R z' x word) (sym c-is) ∙ sym fit ∙ e
-
-      pub fit-8 : u ≡ true → 8 ≡ fit_number R z' word
-      unfolding fit_number
-      fit-8 e = sym (judged-passed R eight (sym found ∙ done) ∙ applies 8 [] (fit_word e))
-
-      pub fit-0 : u ≡ false → 0 ≡ fit_number R z' word
-      unfolding fit_number
-      fit-0 e = sym (judged-passed R eight (sym found ∙ done) ∙ passes 8 [] (fit_word e) ∙ none_left)
+  pub fit_judged : judged R ≡ 0 → fit_number R z' word ≡ cond (unfit R z' (columns R) word) 8 0
+  unfolding fit_number answered
+  fit_judged e = judged-passed R eight e
 
   -- the profile is accepted, z' is one of its sizes, and the word is as long as its coded blocks
   pub record Fit : Type 0 where

@@ -1,30 +1,28 @@
 -- The plain checker: an element of the spread-out matrix, the bit at a place, a row's sum place by place, and all rows.
-use mathlib.Core.Path.{◌≡◌, refl, sym, ap, ap₂, subst, ◌∙◌}
-use mathlib.Core.Bool.{true, false}
+use mathlib.Core.Path.{◌≡◌, refl, sym, ap, ap₂, ◌∙◌}
+use mathlib.Core.Bool.{Bool, true, false}
 use mathlib.Core.List.{List, ◌++◌}
 use Prim.Native.Nat.{ℕ, ◌+◌, ◌*◌, ◌/◌, ◌%◌, ◌≤◌, ◌<◌}
-use native.Mathlib.Nat.{zero-add, suc-mul, mul-le-mul, mul-le-mul_right, div-lt_iff_lt-mul}
+use native.Mathlib.Nat.{zero-add, mul-le-mul_right, div-lt_iff_lt-mul}
 use native.Mathlib.Numerals.{add-one}
 use native.Mathlib.Omega.{arith}
-use lib.ListN.{length, get_or, drop, set}
+use lib.ListN.{length, get_or}
 use borrow.Author.Tests.{eq-eqb, ne_eqb}
 use Rattle.bits.specs.Ranges.{sum_below, parity_below}
-use Rattle.bits.proofs.Listed.{written}
+use Rattle.bits.proofs.Listed.{list_of}
 use Rattle.bits.proofs.Ranges.{all_of, all_fails}
 use Rattle.profile.specs.Record.{entry}
 use Rattle.parity.specs.Matrix.{square, spread, bit_at, row_even, checks}
 use Rattle.parity.specs.Steps.Grouped.{Shape}
 use Rattle.parity.specs.Steps.Runs.{Run}
-use Rattle.parity.proofs.Runs.{run_more}
+use Rattle.std.specs.Bool.{MatchBool}
 use Rattle.checking.specs.Sums.{row_sum, row_sums}
 use Rattle.checking.specs.Steps.Spread.{HasRow}
+use Rattle.checking.proofs.Ranged.{Every, One, of_every, of_one}
 
--- ---- an element: where its entry stands, and what it is by its shift s
+-- ---- an element: what it is by its shift s
 
 module _ (T : List ℕ) (columns z row place : ℕ) where
-  pub entry_in : HasRow T columns z row → place < columns * z → row / z * columns + place / z < length T
-  entry_in h l = omega (arith, suc-mul (row / z) columns, (div-lt_iff_lt-mul h.z_some).1 l, h.entries)
-
   module _ (s : ℕ) (read : s ≡ get_or T (row / z * columns + place / z) 0) where
     pub element-empty : s ≡ 255 → 0 ≡ spread T columns z row place
     unfolding spread square entry
@@ -54,13 +52,6 @@ module _ (w : List ℕ) (place : ℕ) where
 -- the sum over the places before one, modulo two
 unfoldable pub summed : List ℕ → ℕ → ℕ → List ℕ → ℕ → ℕ → ℕ
 summed T columns z w row place = parity_below place (λ p. spread T columns z row p * bit_at w p)
-
--- what a place adds is at most an octet
-pub product-few : {e b : ℕ} → e < 2 → b < 256 → e * b < 256
-product-few {e} {b} l h =
-    let one : e ≤ 1 = omega arith in
-    let octet : b ≤ 255 = omega arith in
-    omega (arith, mul-le-mul one octet)
 
 module _ (T : List ℕ) (columns z : ℕ) (w : List ℕ) (row : ℕ) where
   pub summed-none : 0 ≡ summed T columns z w row 0
@@ -109,17 +100,22 @@ module _ (T : List ℕ) (rows columns z : ℕ) (w : List ℕ) where
   unfolding checks
   even_checks h = sym (all_of (rows * z) (row_even T columns z w) (λ row l. row-even T columns z w row (h row l)))
 
--- ---- the sums of all rows, written to the front of a list
+  -- what `all` answers, where each row is asked whether its sum is 0
+  pub all_checks : (b : Bool)
+      → MatchBool b (Every (λ row. row_sum T columns z w row ≡ 0) (rows * z)) (One (λ row. row_sum T columns z w row ≡ 0 → ⊥) (rows * z))
+      → b ≡ checks T rows columns z w
+  all_checks true h = even_checks (of_every (λ row. row_sum T columns z w row ≡ 0) (rows * z) h)
+  all_checks false h =
+      let odd = of_one (λ row. row_sum T columns z w row ≡ 0 → ⊥) (rows * z) h in
+      odd_fails odd.0 odd.1 odd.2
 
-pub front_more : (f : ℕ → ℕ) (a b : List ℕ) (k v : ℕ) → Run k f a 0 b → k < length a → v ≡ f k → Run (k + 1) f a 0 (set b k v)
-front_more f a b k v r l e =
-    let more = run_more f a 0 k b v r (omega arith) e in
-    subst (λ (p : ℕ). Run (k + 1) f a 0 (set b p v)) (zero-add k) more
+-- ---- the sums of all rows
 
-pub front-sums : (T : List ℕ) (rows columns z : ℕ) (w a b : List ℕ) → rows * z ≤ length a → Run (rows * z) (row_sum T columns z w) a 0 b
-    → b ≡ row_sums T rows columns z w ++ drop (rows * z) a
+-- a list of as many places as there are rows, all of them written, in front of what stays
+pub sums-made : (T : List ℕ) (rows columns z : ℕ) (w a b rest : List ℕ) (k : ℕ) → length a ≡ rows * z → k ≡ rows * z → Run k (row_sum T columns z w) a 0 b
+    → b ++ rest ≡ row_sums T rows columns z w ++ rest
 unfolding row_sums
-front-sums T rows columns z w a b l r =
-    written (rows * z) (row_sum T columns z w) a b l r.len
-    (λ k m. ap (λ (p : ℕ). get_or b p 0) (sym (zero-add k)) ∙ r.inside k m)
-    (λ p m. r.above p (omega arith))
+sums-made T rows columns z w a b rest k l e r =
+    ap (λ (s : List ℕ). s ++ rest)
+    (list_of (rows * z) (row_sum T columns z w) b (r.len ∙ l)
+    (λ i m. ap (λ (p : ℕ). get_or b p 0) (sym (zero-add i)) ∙ r.inside i (omega (arith, m, e))))

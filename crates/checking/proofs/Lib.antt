@@ -1,3 +1,4 @@
+pub mod Ranged
 pub mod Elements
 pub mod Answers
 pub mod Agreement

@@ -1,8 +1,10 @@
 -- What the public calls promise, for every record R, every z and all octets. Which checker is asked stands in no promise: both say the same
 -- (document 02, CR 4).
-use Rattle.std.specs.Prelude.{◌≡◌, Bool, false, List, [], ◌∷◌, ◌++◌, ℕ, ◌*◌, ltb, length, drop}
+use Rattle.std.specs.Prelude.{◌≡◌, Bool, false, List, [], ◌∷◌, ◌++◌, Result, ℕ, ◌*◌, ltb, length, drop}
 use Rattle.bits.specs.Bits.{some_over}
 use Rattle.bits.specs.Numbers.{answered, when_done}
+use Rattle.bits.specs.Refusals.{number_of, value_or}
+use Rattle.bits.specs.declared.number.Refusal.{Refusal}
 use Rattle.bits.specs.declared.number.Written.{Written}
 use Rattle.profile.specs.Record.{rows, columns}
 use Rattle.profile.specs.Promises.{judge_conditions}
@@ -19,6 +21,10 @@ check_conditions R z' word = judge_conditions R ++ (8, unfit R z' (columns R) wo
 
 unfoldable pub check_number : List ℕ → ℕ → List ℕ → ℕ
 check_number R z' word = answered (check_conditions R z' word)
+
+-- an answer of a check: its number, and whether the word checks, no with a refusal
+abbrev pub verdict : Result Bool Refusal → Verdict
+verdict answer = record { number = number_of answer; checks = value_or false answer }
 
 pub record WordChecked (R : List ℕ) (z' : ℕ) (word : List ℕ) (r : Verdict) : Type 0 where
   pub number : r.number ≡ check_number R z' word

@@ -17,7 +17,7 @@ fn element(table: &[u8], columns: usize, z: usize, row: usize, place: usize) -> 
     if s == EMPTY {
         return 0;
     }
-    let one = (row % z + s as usize) % z;
+    let one = (row % z + usize::from(s)) % z;
     if place % z == one {
         return 1;
     }
@@ -42,10 +42,8 @@ pub fn row_sum(table: &[u8], columns: usize, z: usize, word: &[u8], row: usize) 
 {
     let places = columns * z;
     let mut sum = 0;
-    let mut place = 0;
-    while place < places {
+    for place in 0..places {
         sum = (sum + element(table, columns, z, row, place) * bit(word, place)) % 2;
-        place += 1;
     }
     sum
 }
@@ -55,15 +53,7 @@ pub fn rows_even(table: &[u8], rows: usize, columns: usize, z: usize, word: &[u8
     requires { Shape table.now rows columns z × (length word.now ≡ columns * z) }
     ensures { result ≡ checks table.now rows columns z word.now }
 {
-    let all = rows * z;
-    let mut row = 0;
-    while row < all {
-        if row_sum(table, columns, z, word, row) != 0 {
-            return false;
-        }
-        row += 1;
-    }
-    true
+    (0..rows * z).all(|row| row_sum(table, columns, z, word, row) == 0)
 }
 
 // Writes the sum of every row over the word, modulo two.
@@ -71,10 +61,7 @@ pub fn put_sums(table: &[u8], rows: usize, columns: usize, z: usize, word: &[u8]
     requires { Shape table.now rows columns z × (length word.now ≡ columns * z) × (rows * z ≤ length out.old) }
     ensures { out.new ≡ row_sums table.now rows columns z word.now ++ drop (rows * z) out.old }
 {
-    let count = rows * z;
-    let mut at = 0;
-    while at < count {
-        out[at] = row_sum(table, columns, z, word, at) as u8;
-        at += 1;
+    for (row, sum) in out[..rows * z].iter_mut().enumerate() {
+        *sum = row_sum(table, columns, z, word, row) as u8;
     }
 }

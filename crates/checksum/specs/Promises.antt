@@ -1,9 +1,15 @@
 -- What the public calls promise, for every width and every input. A `Sum` has a number and a value.
-use Rattle.std.specs.Prelude.{◌≡◌, Bool, cond, not, ◌||◌, List, [], ◌∷◌, ℕ, eqb}
+use Rattle.std.specs.Prelude.{◌≡◌, Bool, cond, not, ◌||◌, List, [], ◌∷◌, ℕ, Result, eqb}
 use Rattle.bits.specs.Bits.{some_over, unpacked}
 use Rattle.bits.specs.Numbers.{answered, when_done}
+use Rattle.bits.specs.Refusals.{number_of, value_or}
+use Rattle.bits.specs.declared.number.Refusal.{Refusal}
 use Rattle.checksum.specs.Crc.{checksum, gen24_a, gen16, gen8}
 use Rattle.checksum.specs.declared.Sum.{Sum}
+
+-- the answer of a call that sums: its number, and the checksum, 0 with a refusal
+abbrev pub summed : Result ℕ Refusal → Sum
+summed answer = record { number = number_of answer; value = value_or 0 answer }
 
 -- the generator of a width, and 0 where 5.1.1 has none
 unfoldable pub generator : ℕ → ℕ

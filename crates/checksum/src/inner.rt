@@ -14,13 +14,11 @@ pub fn sum_octets(octets: &[u8], w: u32) -> u32
     requires { other_width w ≡ false }
     ensures { result ≡ checksum w (generator w) (unpacked octets.now) }
 {
-    if w == 24 {
-        return table::sum24a(octets);
+    match w {
+        24 => table::sum_by(octets, 24, &table::LEFT24A),
+        16 => table::sum_by(octets, 16, &table::LEFT16),
+        _ => table::sum_by(octets, 8, &table::LEFT8),
     }
-    if w == 16 {
-        return table::sum16(octets);
-    }
-    table::sum8(octets)
 }
 
 // The checksum of bits that stand one to an octet.
@@ -28,12 +26,9 @@ pub fn sum_bits(bits: &[u8], w: u32, g: u32) -> u32
     requires { Generator w g × AreBits bits.now }
     ensures { result ≡ checksum w g bits.now }
 {
-    let mut r: u32 = 0;
-    let mut i = 0;
-    while i < bits.len() {
-        let bit = bits[i] as u32;
-        r = register::step(r, bit, w, g);
-        i += 1;
+    let mut r = 0;
+    for bit in bits {
+        r = register::step(r, *bit as u32, w, g);
     }
     r
 }

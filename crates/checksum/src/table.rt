@@ -2,7 +2,7 @@
 ghost use Rattle.std.specs.Prelude.{◌≡◌, ◌-◌, ◌*◌, ◌/◌, ◌%◌, ◌^◌, ◌<◌, get_or};
 ghost use Rattle.std.specs.Int.Bits.{bit_xor};
 ghost use Rattle.bits.specs.Bits.{unpacked};
-ghost use Rattle.checksum.specs.Crc.{checksum, gen24_a, gen16, gen8};
+ghost use Rattle.checksum.specs.Crc.{checksum};
 ghost use Rattle.checksum.specs.Steps.Table.{Left, generator_of};
 
 use crate::register;
@@ -24,51 +24,26 @@ fn next_place(reg: u32, at: u32, x: u8, w: u32, left: &[u32]) -> u32
     register::top_octet(left[at as usize], w) ^ rest
 }
 
-fn sum_by(octets: &[u8], w: u32, left: &[u32]) -> u32
+// The checksum of octets by the table of their width.
+pub fn sum_by(octets: &[u8], w: u32, left: &[u32]) -> u32
     requires { Left w left.now }
     ensures { result ≡ checksum w (generator_of left.now) (unpacked octets.now) }
 {
     if octets.len() == 0 {
         return 0;
     }
-    let mut reg: u32 = 0;
+    let mut reg = 0;
     let mut at = octets[0] as u32;
-    let mut i = 0;
-    while i + 1 < octets.len() {
-        i += 1;
-        let place = next_place(reg, at, octets[i], w, left);
+    for octet in &octets[1..] {
+        let place = next_place(reg, at, *octet, w, left);
         reg = moved(reg, at, w, left);
         at = place;
     }
     moved(reg, at, w, left)
 }
 
-// Of 24 bits, with gCRC24A. A const is built anew wherever it is named, so each table is named once for all octets.
-pub fn sum24a(octets: &[u8]) -> u32
-    ensures { result ≡ checksum 24 gen24_a (unpacked octets.now) }
-{
-    let left = LEFT24A;
-    sum_by(octets, 24, &left)
-}
-
-// Of 16 bits, with gCRC16.
-pub fn sum16(octets: &[u8]) -> u32
-    ensures { result ≡ checksum 16 gen16 (unpacked octets.now) }
-{
-    let left = LEFT16;
-    sum_by(octets, 16, &left)
-}
-
-// Of 8 bits, with gCRC8.
-pub fn sum8(octets: &[u8]) -> u32
-    ensures { result ≡ checksum 8 gen8 (unpacked octets.now) }
-{
-    let left = LEFT8;
-    sum_by(octets, 8, &left)
-}
-
 // What each octet leaves, from 0 on: of 24 bits, of 16 and of 8.
-const LEFT24A: [u32; 256] = [
+pub static LEFT24A: [u32; 256] = [
     0x000000, 0x864CFB, 0x8AD50D, 0x0C99F6, 0x93E6E1, 0x15AA1A, 0x1933EC, 0x9F7F17, 0xA18139,
     0x27CDC2, 0x2B5434, 0xAD18CF, 0x3267D8, 0xB42B23, 0xB8B2D5, 0x3EFE2E, 0xC54E89, 0x430272,
     0x4F9B84, 0xC9D77F, 0x56A868, 0xD0E493, 0xDC7D65, 0x5A319E, 0x64CFB0, 0xE2834B, 0xEE1ABD,
@@ -100,7 +75,7 @@ const LEFT24A: [u32; 256] = [
     0xD11CCE, 0x575035, 0x5BC9C3, 0xDD8538,
 ];
 
-const LEFT16: [u32; 256] = [
+pub static LEFT16: [u32; 256] = [
     0x0000, 0x1021, 0x2042, 0x3063, 0x4084, 0x50A5, 0x60C6, 0x70E7, 0x8108, 0x9129, 0xA14A, 0xB16B,
     0xC18C, 0xD1AD, 0xE1CE, 0xF1EF, 0x1231, 0x0210, 0x3273, 0x2252, 0x52B5, 0x4294, 0x72F7, 0x62D6,
     0x9339, 0x8318, 0xB37B, 0xA35A, 0xD3BD, 0xC39C, 0xF3FF, 0xE3DE, 0x2462, 0x3443, 0x0420, 0x1401,
@@ -125,7 +100,7 @@ const LEFT16: [u32; 256] = [
     0x2E93, 0x3EB2, 0x0ED1, 0x1EF0,
 ];
 
-const LEFT8: [u32; 256] = [
+pub static LEFT8: [u32; 256] = [
     0x00, 0x9B, 0xAD, 0x36, 0xC1, 0x5A, 0x6C, 0xF7, 0x19, 0x82, 0xB4, 0x2F, 0xD8, 0x43, 0x75, 0xEE,
     0x32, 0xA9, 0x9F, 0x04, 0xF3, 0x68, 0x5E, 0xC5, 0x2B, 0xB0, 0x86, 0x1D, 0xEA, 0x71, 0x47, 0xDC,
     0x64, 0xFF, 0xC9, 0x52, 0xA5, 0x3E, 0x08, 0x93, 0x7D, 0xE6, 0xD0, 0x4B, 0xBC, 0x27, 0x11, 0x8A,

@@ -1,16 +1,16 @@
 -- The numbers that are answered before a block is coded, 5 to 11, 16 and 19: how each is found, and what a request that none refuses has passed.
 use mathlib.Core.Path.{◌≡◌, refl, sym, ◌∙◌}
-use mathlib.Core.Bool.{Bool, true, false, not}
+use mathlib.Core.Bool.{Bool, true, false, not, ◌||◌, true≢false}
 use mathlib.Core.List.{List, [], ◌∷◌}
 use Prim.Native.Nat.{ℕ, ◌≤◌}
 use native.Mathlib.Omega.{arith}
-use borrow.Author.Tests.{ltb-false, le-ltb}
-use lib.Dec.{ltb, lit<}
+use borrow.Author.Tests.{ltb-false, le-ltb, eqb-true, eq-eqb, ne_eqb}
+use lib.Dec.{eqb, ltb, lit<}
 use Rattle.bits.specs.Numbers.{answered}
 use Rattle.bits.specs.Ranges.{within}
 use Rattle.bits.specs.declared.count.Terms.{Terms}
 use Rattle.bits.proofs.Answers.{applies, passes, passed, none_left, first_part, Refusals, last_part}
-use Rattle.bits.proofs.Ranges.{equal_or}
+use Rattle.bits.proofs.Ranges.{equal_or, neither}
 use Rattle.profile.specs.Record.{kind, well_formed}
 use Rattle.profile.specs.Staircase.{staircases}
 use Rattle.profile.specs.Promises.{judged}
@@ -48,6 +48,11 @@ not_seven : (a b : Bool) → (answered ((7, a) ∷ (9, b) ∷ []) ≡ 7 → ⊥)
 unfolding answered
 not_seven true b n = absurd (n refl)
 not_seven false b n = refl
+
+pub not-refused : (p : ℕ) → (eqb p 19 || eqb p 7) ≡ false → (p ≡ 19 → ⊥) × (p ≡ 7 → ⊥)
+not-refused p e =
+    let both = neither (eqb p 19) (eqb p 7) e in
+    (λ q. true≢false (sym (eq-eqb p 19 q) ∙ both.0), λ q. true≢false (sym (eq-eqb p 7 q) ∙ both.1))
 
 -- ---- 5 to 9, 16 and 19
 
@@ -113,6 +118,13 @@ module _ (R : List ℕ) (octets : ℕ) (terms : Terms) (g : ℕ) where
 
           pub cut-nine : misallocated terms g ≡ false → p ≡ cut_number R octets terms g
           cut-nine right = from-seven ∙ passes 7 _ past-seven ∙ sym (from-eight ∙ passes 8 _ right)
+
+  -- a plan that is refused with 19 or 7, and one that is not
+  pub cut-refused : judged R ≡ 0 → (p : ℕ) → p ≡ plan_number R terms.edition octets → (eqb p 19 || eqb p 7) ≡ true → p ≡ cut_number R octets terms g
+  cut-refused e p plan t =
+      equal_or p 19
+      (λ q. q ∙ cut-nineteen e p plan q)
+      (λ n. let q : p ≡ 7 = eqb-true p 7 (rw (ne_eqb p 19 n) at t) in q ∙ cut_seven e p plan n q)
 
   -- what a block that none of them refuses has passed
   pub cut-passed : cut_number R octets terms g ≡ 0 → (plan_number R terms.edition octets ≡ 0) × (misallocated terms g ≡ false) × (misversioned (kind R) terms.rv ≡ false)

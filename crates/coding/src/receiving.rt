@@ -1,6 +1,6 @@
 // Receiving: every block's stretch is gathered into a word and tested in turn, its own checksum with it, and the word's own bits are kept.
 ghost use Rattle.std.specs.Prelude.{◌≡◌, ◌≤◌, length};
-ghost use Rattle.block.specs.Steps.Blocks.{Fits};
+ghost use Rattle.block.specs.Steps.Blocks.{word_size, Fits};
 ghost use Rattle.coding.specs.Steps.Sending.{version_start};
 ghost use Rattle.coding.specs.Steps.Receiving.{ReceivablePlan, Rebuilt};
 
@@ -30,8 +30,7 @@ fn rebuild(
     let c = plan.blocks;
     let mut start = 0;
     let mut at = 0;
-    let mut r = 0;
-    while r < c {
+    for r in 0..c {
         let own = cutting::inner::own_bits(b, c, r);
         let e = inner::share_of(terms, g, c, r);
         if !block::inner::is_received(
@@ -48,12 +47,38 @@ fn rebuild(
         bits::inner::lay(word, 0, room, start, own);
         start += own;
         at += e.0;
-        r += 1;
     }
     true
 }
 
-// The same with room for one coded block of its own.
+// The same with room for one coded block of its own, of N places at most.
+fn rebuild_in<const N: usize>(
+    profile: &[u8],
+    plan: Plan,
+    bits: &[u8],
+    terms: Terms,
+    checker: Checker,
+    room: &mut [u8],
+) -> bool
+    requires { ReceivablePlan profile.now terms bits.now plan × (plan.bits ≤ length room.old) × (word_size profile.now plan ≤ N) × (N ≤ 4860) }
+    ensures { Rebuilt profile.now terms bits.now plan.bits result room.new }
+{
+    let n = block::inner::size(profile, plan);
+    let from = block::inner::start(profile, plan, terms.rv);
+    let mut word = [0u8; N];
+    rebuild(
+        profile,
+        plan,
+        bits,
+        terms,
+        from,
+        checker,
+        &mut word[..n],
+        room,
+    )
+}
+
+// The longest coded block has 4860 places.
 pub fn rebuild_bits(
     profile: &[u8],
     plan: Plan,
@@ -65,30 +90,8 @@ pub fn rebuild_bits(
     requires { ReceivablePlan profile.now terms bits.now plan × (plan.bits ≤ length room.old) }
     ensures { Rebuilt profile.now terms bits.now plan.bits result room.new }
 {
-    let n = block::inner::size(profile, plan);
-    let from = block::inner::start(profile, plan, terms.rv);
-    if n <= FEW {
-        let mut few = [0u8; 1944];
-        return rebuild(
-            profile,
-            plan,
-            bits,
-            terms,
-            from,
-            checker,
-            &mut few[..n],
-            room,
-        );
+    if block::inner::size(profile, plan) <= FEW {
+        return rebuild_in::<FEW>(profile, plan, bits, terms, checker, room);
     }
-    let mut many = [0u8; 4860];
-    rebuild(
-        profile,
-        plan,
-        bits,
-        terms,
-        from,
-        checker,
-        &mut many[..n],
-        room,
-    )
+    rebuild_in::<4860>(profile, plan, bits, terms, checker, room)
 }

@@ -1,6 +1,6 @@
 // Sending transport bits: each block's bits straight into its own stretch of the output.
-ghost use Rattle.std.specs.Prelude.{◌≡◌, ◌++◌, drop};
-ghost use Rattle.block.specs.Steps.Blocks.{Fits};
+ghost use Rattle.std.specs.Prelude.{◌≡◌, ◌++◌, ◌≤◌, drop};
+ghost use Rattle.block.specs.Steps.Blocks.{word_size, Fits};
 ghost use Rattle.coding.specs.Joining.{radio_bits};
 ghost use Rattle.coding.specs.Steps.Sending.{version_start, Sendable};
 
@@ -29,8 +29,7 @@ fn send_blocks(
     let c = plan.blocks;
     let mut start = 0;
     let mut at = 0;
-    let mut r = 0;
-    while r < c {
+    for r in 0..c {
         let own = cutting::inner::own_bits(b, c, r);
         let e = inner::share_of(terms, g, c, r);
         block::inner::send_block(
@@ -46,11 +45,28 @@ fn send_blocks(
         );
         start += own;
         at += e.0;
-        r += 1;
     }
 }
 
-// Sends transport bits, with room for one coded block of its own.
+// Sends transport bits, with room for one coded block of its own, of N places at most.
+fn send_in<const N: usize>(
+    profile: &[u8],
+    plan: Plan,
+    bits: &[u8],
+    terms: Terms,
+    g: CodedBits,
+    out: &mut [u8],
+)
+    requires { Sendable profile.now plan bits.now terms g.0 out.old × (word_size profile.now plan ≤ N) × (N ≤ 4860) }
+    ensures { out.new ≡ radio_bits profile.now plan.bits bits.now terms g.0 ++ drop g.0 out.old }
+{
+    let n = block::inner::size(profile, plan);
+    let from = block::inner::start(profile, plan, terms.rv);
+    let mut word = [0u8; N];
+    send_blocks(profile, plan, bits, terms, g, from, &mut word[..n], out)
+}
+
+// The longest coded block has 4860 places.
 pub fn send_bits(
     profile: &[u8],
     plan: Plan,
@@ -62,12 +78,8 @@ pub fn send_bits(
     requires { Sendable profile.now plan bits.now terms g.0 out.old }
     ensures { out.new ≡ radio_bits profile.now plan.bits bits.now terms g.0 ++ drop g.0 out.old }
 {
-    let n = block::inner::size(profile, plan);
-    let from = block::inner::start(profile, plan, terms.rv);
-    if n <= FEW {
-        let mut few = [0u8; 1944];
-        return send_blocks(profile, plan, bits, terms, g, from, &mut few[..n], out);
+    if block::inner::size(profile, plan) <= FEW {
+        return send_in::<FEW>(profile, plan, bits, terms, g, out);
     }
-    let mut many = [0u8; 4860];
-    send_blocks(profile, plan, bits, terms, g, from, &mut many[..n], out)
+    send_in::<4860>(profile, plan, bits, terms, g, out)
 }

@@ -1,11 +1,12 @@
 // The words of the command line: those behind the command, in their order or by their names, the options among them, and the numbers that they hold.
-ghost use Rattle.std.specs.Prelude.{◌≤◌, ◌<◌, length};
+ghost use Rattle.std.specs.Prelude.{◌-◌, ◌≤◌, IfSome, length};
+ghost use Rattle.std.specs.Iterator.{at_most};
 
 use crate::errors::Errors;
+use crate::list::Lines;
 use crate::{list, page};
 use std::env::FillError;
 use std::rt::Env;
-use text::values::Parsed;
 use text::{octets, values};
 
 // What stands behind the command. Options may stand anywhere among the words and are no words.
@@ -66,141 +67,143 @@ pub fn for_help() -> Words {
     }
 }
 
-// Of how many words the option consists that this word names: 1 without a value and 2 with one, or 0 where it names none. An option is one line in one
-// of the two lists, and so is the name of a word; each command says by `fits` which it takes.
-fn width(word: &[u8]) -> usize
-    ensures { result ≤ 2 }
-{
-    if list::has(b"--help\n--text\n--plain\n--svg\n", word) {
-        return 1;
-    }
-    if list::has(
-        b"-o
---rv
---edition
---private
---public
---tenant
---profile
---layers
---order
---bits
---length
---octets
---record
---kind
---file
---z
-",
-        word,
-    ) {
-        return 2;
-    }
-    0
+// What a word of the command line is.
+#[derive(Clone, Copy)]
+enum Kind {
+    Word,
+    // An option without a value.
+    Flag,
+    // An option whose value stands behind it, or a word's name.
+    Valued,
 }
 
-// How far the next word or option stands behind place i: an option that has a value has it behind it.
-fn step(rt: &impl Env, i: usize) -> usize
-    ensures { (1 ≤ result) × (result ≤ 2) }
-{
+// An option is one word in one of the two lists, and so is the name of a word; each command says by `fits` which it takes.
+fn kind_of(word: &[u8]) -> Kind {
+    match word {
+        b"--help" | b"--text" | b"--plain" | b"--svg" => Kind::Flag,
+        b"-o"
+        | b"--rv"
+        | b"--edition"
+        | b"--private"
+        | b"--public"
+        | b"--tenant"
+        | b"--profile"
+        | b"--layers"
+        | b"--order"
+        | b"--bits"
+        | b"--length"
+        | b"--octets"
+        | b"--record"
+        | b"--kind"
+        | b"--file"
+        | b"--z" => Kind::Valued,
+        _ => Kind::Word,
+    }
+}
+
+fn kind_at(rt: &impl Env, i: usize) -> Kind {
     let mut word = io::buffer();
     let n = read(rt, i, &mut word);
-    if width(&word[..n]) == 2 {
-        return 2;
-    }
-    1
+    kind_of(&word[..n])
 }
 
-// The place behind what stands at place i, but not behind the end.
-fn past(rt: &impl Env, i: usize, end: usize) -> usize
-    requires { i < end }
-    ensures { (i < result) × (result ≤ end) }
-{
-    let n = step(rt, i);
-    if n > end - i {
-        return end;
-    }
-    i + n
+// Where a word or an option stands, counted from the program's name, and the place behind it, where the value of an option stands.
+#[derive(Clone, Copy)]
+struct Placed {
+    at: usize,
+    behind: usize,
 }
 
-// Where an option stands on the command line, counted from the program's name, or the end where it is not given. Its value stands behind it.
-pub fn find(rt: &impl Env, option: &[u8]) -> usize {
-    let end = count(rt);
-    let mut i = 2;
-    while i < end {
-        if is_word(rt, i, option) {
-            return i;
+// The words and options behind the command. A value is passed with its option.
+#[derive(Drop)]
+struct Line<'a, R: Env> {
+    rt: &'a R,
+    at: usize,
+    end: usize,
+}
+
+impl<'a, R: Env> Line<'a, R> {
+    fn of(rt: &'a R) -> Self {
+        Self {
+            rt,
+            at: 2,
+            end: count(rt),
         }
-        i = past(rt, i, end);
     }
-    i
+}
+
+impl<'a, R: Env> Iterator for Line<'a, R> {
+    type Item = Placed;
+
+    ghost remaining = { λ s. at_most (s.end - s.at) };
+
+    fn next(&mut self) -> Option<Placed> {
+        let at = self.at;
+        if at >= self.end {
+            return None;
+        }
+        let behind = at + 1;
+        self.at = match kind_at(self.rt, at) {
+            Kind::Valued => self.end.min(behind.saturating_add(1)),
+            _ => behind,
+        };
+        Some(Placed { at, behind })
+    }
+}
+
+fn find(rt: &impl Env, option: &[u8]) -> Option<Placed> {
+    Line::of(rt).find(|placed| is_word(rt, placed.at, option))
+}
+
+// Where the value of an option stands, where the option is given; behind the last word where it has none.
+pub fn value_of(rt: &impl Env, option: &[u8]) -> Option<usize> {
+    match find(rt, option) {
+        Some(placed) => Some(placed.behind),
+        None => None,
+    }
 }
 
 pub fn is_given(rt: &impl Env, option: &[u8]) -> bool {
-    find(rt, option) < count(rt)
+    find(rt, option).is_some()
 }
 
 fn is_word(rt: &impl Env, i: usize, what: &[u8]) -> bool {
     let mut word = io::buffer();
     let n = read(rt, i, &mut word);
-    octets::same(&word[..n], what)
+    &word[..n] == what
 }
 
-// Whether an option stands at a place.
-fn is_option(rt: &impl Env, i: usize) -> bool {
-    let mut word = io::buffer();
-    let n = read(rt, i, &mut word);
-    width(&word[..n]) > 0
+// Where word k behind the command stands, names and options not counted.
+fn nth(rt: &impl Env, k: usize) -> Option<usize> {
+    Line::of(rt)
+        .map(|placed| placed.at)
+        .filter(|i| matches!(kind_at(rt, *i), Kind::Word))
+        .nth(k)
 }
 
-// Where word k behind the command stands, names and options not counted, or the end where there are not so many.
-fn nth(rt: &impl Env, k: usize) -> usize {
-    let end = count(rt);
-    let mut left = k;
-    let mut i = 2;
-    while i < end {
-        if is_option(rt, i) {
-            i = past(rt, i, end);
-            continue;
-        }
-        if left == 0 {
-            return i;
-        }
-        left -= 1;
-        i += 1;
-    }
-    i
-}
-
-// Where the word with this name stands, or the end where it is not given: behind its name or, among those that have none, in its turn. `names` has the names
-// of all words of a command in their order.
+// Where the word with this name stands, or the end where it is not given. `names` has the names of all words of a command in their order.
 pub fn place(rt: &impl Env, names: &[u8], name: &[u8]) -> usize {
+    given(rt, names, name).unwrap_or(count(rt))
+}
+
+// The same of a word that is given: behind its name or, among those that have none, in its turn.
+fn given(rt: &impl Env, names: &[u8], name: &[u8]) -> Option<usize> {
     let end = count(rt);
-    let at = find(rt, name);
-    if at < end {
-        return at + 1;
+    match value_of(rt, name) {
+        Some(at) => Some(at).filter(|i| *i < end),
+        None => {
+            let k = list::find(names, name).unwrap_or(list::count(names));
+            nth(rt, without_name(rt, names, k))
+        }
     }
-    nth(rt, without_name(rt, names, list::find(names, name)))
 }
 
 // How many of the first k words have to be given without their names, since they are not given by name.
 fn without_name(rt: &impl Env, names: &[u8], k: usize) -> usize {
-    let mut n = 0;
-    let mut j = 0;
-    while j < k {
-        n += one_without(rt, list::line(names, j));
-        j += 1;
-    }
-    n
-}
-
-fn one_without(rt: &impl Env, name: &[u8]) -> usize
-    ensures { result ≤ 1 }
-{
-    if is_given(rt, name) {
-        return 0;
-    }
-    1
+    Lines(names)
+        .take(k)
+        .filter(|name| !is_given(rt, *name))
+        .count()
 }
 
 // Whether the words and options are those of a command: its words by their names, of which the first so many are needed, and its options. What is wrong is
@@ -212,73 +215,55 @@ pub fn fits(rt: &(impl Env + Errors), names: &[u8], needed: usize, options: &[u8
     if !are_enough(rt, names, needed) {
         return false;
     }
-    let end = count(rt);
-    let more = nth(rt, without_name(rt, names, list::count(names)));
-    if more < end {
+    if let Some(more) = nth(rt, without_name(rt, names, list::count(names))) {
         return wrong(rt, b"'", more, b"' is a word too many");
     }
     true
 }
 
 fn are_known(rt: &(impl Env + Errors), names: &[u8], options: &[u8]) -> bool {
-    let end = count(rt);
-    let mut i = 2;
-    while i < end {
-        if !is_known(rt, i, end, names, options) {
-            return false;
-        }
-        i = past(rt, i, end);
-    }
-    true
+    Line::of(rt).all(|placed| is_known(rt, placed, names, options))
 }
 
-// Whether what stands at place i may stand there: a word, or an option that the command takes, once and with its value.
-fn is_known(rt: &(impl Env + Errors), i: usize, end: usize, names: &[u8], options: &[u8]) -> bool
-    requires { i < end }
-{
-    let mut word = io::buffer();
-    let n = read(rt, i, &mut word);
-    let wide = width(&word[..n]);
-    if wide == 0 {
-        return is_no_option(rt, i, &word[..n]);
+// Whether what stands at a place may stand there: a word, or an option that the command takes, once and with its value.
+fn is_known(rt: &(impl Env + Errors), placed: Placed, names: &[u8], options: &[u8]) -> bool {
+    let i = placed.at;
+    let mut room = io::buffer();
+    let n = read(rt, i, &mut room);
+    let word = &room[..n];
+    let kind = kind_of(word);
+    if let Kind::Word = kind {
+        return is_no_option(rt, i, word);
     }
-    if !is_taken(&word[..n], names, options) {
+    if !is_taken(word, names, options) {
         return wrong(rt, b"this command takes no ", i, b"");
     }
-    if find(rt, &word[..n]) < i {
+    if find(rt, word).is_some_and(|first| first.at < i) {
         return wrong(rt, b"", i, b" is given twice");
     }
-    if wide > end - i {
+    if matches!(kind, Kind::Valued) && placed.behind >= count(rt) {
         return wrong(rt, b"nothing stands behind ", i, b"");
     }
     true
 }
 
 fn is_no_option(rt: &(impl Env + Errors), i: usize, word: &[u8]) -> bool {
-    if word.len() < 2 {
-        return true;
-    }
-    if octets::same(&word[0..2], b"--") {
+    if word.starts_with(b"--") {
         return wrong(rt, b"there is no option ", i, b"");
     }
     true
 }
 
 fn is_taken(word: &[u8], names: &[u8], options: &[u8]) -> bool {
-    if list::has(names, word) {
-        return true;
-    }
-    list::has(options, word)
+    list::has(names, word) || list::has(options, word)
 }
 
 // Whether the first so many words of a command are given.
 fn are_enough(rt: &(impl Env + Errors), names: &[u8], needed: usize) -> bool {
-    let mut k = 0;
-    while k < needed {
-        if place(rt, names, list::line(names, k)) >= count(rt) {
-            return missing(rt, list::line(names, k));
+    for name in Lines(names).take(needed) {
+        if given(rt, names, name).is_none() {
+            return missing(rt, name);
         }
-        k += 1;
     }
     true
 }
@@ -311,10 +296,8 @@ fn wrong(rt: &(impl Env + Errors), before: &[u8], i: usize, behind: &[u8]) -> bo
 // Puts the name of a word as a usage has it, in capitals and without what stands before it.
 fn put_label(name: &[u8], line: &mut [u8], at: usize) -> usize {
     let mut end = at;
-    let mut i = 0;
-    while i < name.len() {
-        end = put_capital(name[i], line, end);
-        i += 1;
+    for letter in name {
+        end = put_capital(*letter, line, end);
     }
     end
 }
@@ -326,16 +309,14 @@ fn put_capital(letter: u8, line: &mut [u8], at: usize) -> usize {
     page::put(&[letter & 0b1101_1111], line, at)
 }
 
-// A number that a word holds, or bad and 0 where it holds none that fits.
-#[derive(Drop)]
-pub struct Number {
-    pub value: usize,
-    pub bad: bool,
-}
-
-// The number that the word with this name holds, from 0 to `most`.
-pub fn read_number(rt: &(impl Env + Errors), names: &[u8], name: &[u8], most: usize) -> Number
-    ensures { result.value ≤ most }
+// The number that the word with this name holds, from 0 to `most`. Where it holds none, that is said on standard error.
+pub fn read_number(
+    rt: &(impl Env + Errors),
+    names: &[u8],
+    name: &[u8],
+    most: usize,
+) -> Option<usize>
+    ensures { IfSome result (λ n. n ≤ most) }
 {
     let mut label = io::buffer();
     let n = put_label(name, &mut label, 0);
@@ -351,15 +332,11 @@ pub fn read_or(
     name: &[u8],
     most: usize,
     otherwise: usize,
-) -> Number {
-    let at = place(rt, names, name);
-    if at >= count(rt) {
-        return Number {
-            value: otherwise,
-            bad: false,
-        };
+) -> Option<usize> {
+    match given(rt, names, name) {
+        Some(_) => read_number(rt, names, name, most),
+        None => Some(otherwise),
     }
-    read_number(rt, names, name, most)
 }
 
 // The number that stands behind an option, from 0 to `most`, or this one where the option is not given.
@@ -369,55 +346,25 @@ pub fn read_option(
     name: &[u8],
     most: usize,
     otherwise: usize,
-) -> Number {
-    let end = count(rt);
-    let at = find(rt, option);
-    if at >= end {
-        return Number {
-            value: otherwise,
-            bad: false,
-        };
-    }
+) -> Option<usize> {
+    let Some(at) = value_of(rt, option) else {
+        return Some(otherwise);
+    };
     let mut word = io::buffer();
-    let n = read(rt, at + 1, &mut word);
+    let n = read(rt, at, &mut word);
     named(rt, &word[..n], name, most)
 }
 
 // The number that a word holds. Another word is named on standard error.
-fn named(rt: &impl Errors, word: &[u8], name: &[u8], most: usize) -> Number
-    ensures { result.value ≤ most }
-{
-    let number = value(word, most);
-    if number.bad {
-        complain(rt, word, name, most);
-    }
-    number
-}
-
-fn value(word: &[u8], most: usize) -> Number
-    ensures { result.value ≤ most }
+fn named(rt: &impl Errors, word: &[u8], name: &[u8], most: usize) -> Option<usize>
+    ensures { IfSome result (λ n. n ≤ most) }
 {
     match values::number(word) {
-        Parsed::Value(n) => within(n, most),
-        Parsed::Bad(_) => Number {
-            value: 0,
-            bad: true,
-        },
-    }
-}
-
-fn within(n: usize, most: usize) -> Number
-    ensures { result.value ≤ most }
-{
-    if n > most {
-        return Number {
-            value: 0,
-            bad: true,
-        };
-    }
-    Number {
-        value: n,
-        bad: false,
+        Ok(n) if n <= most => Some(n),
+        _ => {
+            complain(rt, word, name, most);
+            None
+        }
     }
 }
 

@@ -79,7 +79,7 @@ fn put_name(path: &[u8], name: &mut [u8]) -> usize
 {
     let a = page::put(path, name, 0);
     let b = page::put(b".000000", name, a);
-    octets::least(b, name.len())
+    b.min(name.len())
 }
 
 fn is_replaced(

@@ -3,18 +3,12 @@ use crate::page;
 
 // How much of `all` is left.
 pub fn left(all: usize, used: usize) -> usize {
-    if used > all {
-        return 0;
-    }
-    all - used
+    all.saturating_sub(used)
 }
 
 // How often a number goes into another, and 0 times where it is 0.
 pub fn per(all: usize, each: usize) -> usize {
-    if each == 0 {
-        return 0;
-    }
-    all / each
+    all.checked_div(each).unwrap_or(0)
 }
 
 // Puts a rate in lowest terms, with spaces before it up to a width of its first number.

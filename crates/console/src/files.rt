@@ -33,35 +33,20 @@ pub fn shelf_room() -> [u8; 131072]
     [0; 131072]
 }
 
-// How much of a file was read into a store. Reading stops where the store is full.
-#[derive(Drop)]
-pub struct Taken {
-    pub count: usize,
-    pub failed: bool,
-    pub done: bool,
-}
-
-fn failure() -> Taken {
-    Taken {
-        count: 0,
-        failed: true,
-        done: true,
-    }
-}
-
-// Reads the file that the word with this name names. Where it cannot be read, the reason is on standard error.
+// Reads the file that the word with this name names, until it ends or the store is full, and answers how many octets came. Where it cannot be read, the
+// reason is on standard error.
 pub fn named(
     rt: &(impl Env + Files + Errors),
     names: &[u8],
     name: &[u8],
     store: &mut [u8],
-) -> Taken {
+) -> Option<usize> {
     let mut path = io::buffer();
     match rt.arg(argv::place(rt, names, name), &mut path) {
         Ok(n) => of_path(rt, &path[..n], store),
         Err(why) => {
             nameless(rt, why);
-            failure()
+            None
         }
     }
 }
@@ -79,29 +64,34 @@ fn nameless(rt: &impl Errors, why: FillError) {
     );
 }
 
-pub fn of_path(rt: &(impl Files + Errors), path: &[u8], store: &mut [u8]) -> Taken {
-    match str::from_utf8(path) {
+pub fn of_path(rt: &(impl Files + Errors), path: &[u8], store: &mut [u8]) -> Option<usize> {
+    let read = match str::from_utf8(path) {
         Ok(name) => of_name(rt, name, store),
-        Err(_) => {
-            fail(rt, path, &Error::from_raw_os_error(errors::NO_TEXT));
-            failure()
-        }
-    }
+        Err(_) => Err(Error::from_raw_os_error(errors::NO_TEXT)),
+    };
+    said(rt, path, read)
 }
 
-fn of_name(rt: &(impl Files + Errors), name: &str, store: &mut [u8]) -> Taken {
-    match fs::open(rt, name) {
-        Ok(mut file) => fill(rt, &mut file, name.as_bytes(), false, store),
-        Err(why) => {
-            fail(rt, name.as_bytes(), &why);
-            failure()
-        }
-    }
+fn of_name(rt: &impl Files, name: &str, store: &mut [u8]) -> Result<usize, Error> {
+    let mut file = fs::open(rt, name)?;
+    fill(&mut file, false, store)
 }
 
 // Reads standard input; as text, it has the characters 0 and 1 for bits.
-pub fn input(rt: &(impl Input + Errors), text: bool, store: &mut [u8]) -> Taken {
-    fill(rt, &mut rt.reader(), b"standard input", text, store)
+pub fn input(rt: &(impl Input + Errors), text: bool, store: &mut [u8]) -> Option<usize> {
+    let read = fill(&mut rt.reader(), text, store);
+    said(rt, b"standard input", read)
+}
+
+// What was read. Where that failed, the reason is said.
+fn said(rt: &impl Errors, name: &[u8], read: Result<usize, Error>) -> Option<usize> {
+    match read {
+        Ok(count) => Some(count),
+        Err(why) => {
+            fail(rt, name, &why);
+            None
+        }
+    }
 }
 
 fn fail(rt: &impl Errors, name: &[u8], why: &Error) {
@@ -111,66 +101,19 @@ fn fail(rt: &impl Errors, name: &[u8], why: &Error) {
     errors::fail(rt, octets::first(&line, end), why);
 }
 
-// A proved loop has to end, and nothing says that the input does. So the turns are counted down
-// from a number that no run uses up.
-fn fill(
-    rt: &impl Errors,
-    from: &mut impl Read,
-    name: &[u8],
-    text: bool,
-    store: &mut [u8],
-) -> Taken {
-    let mut taken = Taken {
-        count: 0,
-        failed: false,
-        done: false,
-    };
-    let mut turns = u64::MAX;
-    while turns > 0 {
-        taken = fill_some(rt, from, name, text, store, taken.count);
-        if taken.done {
-            return taken;
-        }
-        turns -= 1;
-    }
-    taken
-}
-
-// Reads once, and keeps what came behind the first `at` octets. Where that fails, the reason is said.
-fn fill_some(
-    rt: &impl Errors,
-    from: &mut impl Read,
-    name: &[u8],
-    text: bool,
-    store: &mut [u8],
-    at: usize,
-) -> Taken {
+// A proved loop has to end, and nothing says that the input does. So there are as many turns as no run
+// uses up.
+fn fill(from: &mut impl Read, text: bool, store: &mut [u8]) -> Result<usize, Error> {
     let mut chunk = io::buffer();
-    match from.read(&mut chunk) {
-        Ok(n) => {
-            let count = keep(text, &chunk[..n], store, at);
-            Taken {
-                count,
-                failed: false,
-                done: is_last(n, count, store),
-            }
-        }
-        Err(why) => {
-            fail(rt, name, &why);
-            Taken {
-                count: at,
-                failed: true,
-                done: true,
-            }
+    let mut count = 0;
+    for _ in 0..u64::MAX {
+        let n = from.read(&mut chunk)?;
+        count = keep(text, &chunk[..n], store, count);
+        if n == 0 || count == store.len() {
+            break;
         }
     }
-}
-
-fn is_last(got: usize, count: usize, store: &[u8]) -> bool {
-    if got == 0 {
-        return true;
-    }
-    count == store.len()
+    Ok(count)
 }
 
 fn keep(text: bool, chunk: &[u8], store: &mut [u8], at: usize) -> usize {
@@ -182,10 +125,8 @@ fn keep(text: bool, chunk: &[u8], store: &mut [u8], at: usize) -> usize {
 
 fn keep_bits(chunk: &[u8], store: &mut [u8], at: usize) -> usize {
     let mut held = at;
-    let mut i = 0;
-    while i < chunk.len() {
-        held = keep_bit(chunk[i], store, held);
-        i += 1;
+    for character in chunk {
+        held = keep_bit(*character, store, held);
     }
     held
 }
@@ -211,35 +152,25 @@ fn bit(character: u8) -> u8 {
 
 // Makes a text of the first n octets, which are bits, with a line end behind it, and answers its length.
 pub fn as_text(store: &mut [u8], n: usize) -> usize {
-    let k = octets::least(n, store.len());
-    spell(&mut store[0..k]);
+    let k = n.min(store.len());
+    spell(&mut store[..k]);
     page::put(b"\n", store, k)
 }
 
-fn spell(bits: &mut [u8]) {
-    let mut i = 0;
-    while i < bits.len() {
-        spell_one(bits, i);
-        i += 1;
-    }
-}
-
 // The character 0 is even, so with the bit set it is the character 1.
-fn spell_one(bits: &mut [u8], i: usize)
-    requires { i < length bits.old }
-{
-    bits[i] = bits[i] | b'0';
+fn spell(bits: &mut [u8]) {
+    for bit in bits {
+        *bit |= b'0';
+    }
 }
 
 // Writes a result, all of it at once, to standard output or to the file that stands behind -o, and answers the exit status.
 pub fn write(rt: &(impl Env + Files + Print + Errors), res: &[u8]) -> i32 {
-    let end = argv::count(rt);
-    let at = argv::find(rt, b"-o");
-    if at >= end {
+    let Some(at) = argv::value_of(rt, b"-o") else {
         return ended(rt, rt.write_all(res));
-    }
+    };
     let mut path = io::buffer();
-    match rt.arg(at + 1, &mut path) {
+    match rt.arg(at, &mut path) {
         Ok(n) => beside::write(rt, &path[..n], res),
         Err(why) => {
             nameless(rt, why);

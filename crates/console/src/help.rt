@@ -2,15 +2,14 @@
 use crate::errors::Errors;
 use crate::{files, status};
 use std::rt::{Env, Files};
-use text::octets;
+use text::words;
 
 // Writes a command's help, where that is asked for. Else says the usage, which is the first line of the help, behind what was said of the words.
 pub fn say(rt: &(impl Env + Files + Print + Errors), asked: bool, help: &[u8]) -> i32 {
     if asked {
         return files::write(rt, help);
     }
-    let n = octets::find(help, 0, b'\n');
-    rt.say(octets::first(help, n));
+    rt.say(words::before(help, b'\n'));
     rt.say(b"\n");
     status::WRONG_WORDS
 }

@@ -3,9 +3,9 @@ use text::octets;
 
 // Puts a piece behind the first `at` octets, and answers where the text then ends.
 pub fn put(piece: &[u8], page: &mut [u8], at: usize) -> usize {
-    let from = octets::least(at, page.len());
-    let n = octets::least(piece.len(), page.len() - from);
-    octets::put(&piece[0..n], page, from)
+    let from = at.min(page.len());
+    let n = piece.len().min(page.len() - from);
+    octets::put(&piece[..n], page, from)
 }
 
 // Puts a number behind the text.
@@ -32,25 +32,23 @@ fn spaces(width: usize, taken: usize, page: &mut [u8], at: usize) -> usize {
 
 // Puts a form behind the text: each # in it stands for the next of the numbers.
 pub fn form(form: &[u8], numbers: &[usize], page: &mut [u8], at: usize) -> usize {
+    let mut numbers = numbers.iter();
     let mut end = at;
-    let mut from = 0;
-    let mut k = 0;
-    while from < form.len() {
-        let mark = octets::find(form, from, b'#');
-        end = put(&form[from..mark], page, end);
-        if mark == form.len() {
-            return end;
+    for piece in form.split_inclusive(|x| *x == b'#') {
+        match piece.strip_suffix(b"#") {
+            Some(text) => {
+                end = put(text, page, end);
+                end = number(numbers.next(), page, end);
+            }
+            None => end = put(piece, page, end),
         }
-        end = number(numbers, k, page, end);
-        k += 1;
-        from = mark + 1;
     }
     end
 }
 
-fn number(numbers: &[usize], k: usize, page: &mut [u8], at: usize) -> usize {
-    if k < numbers.len() {
-        return decimal(numbers[k], page, at);
+fn number(n: Option<&usize>, page: &mut [u8], at: usize) -> usize {
+    match n {
+        Some(n) => decimal(*n, page, at),
+        None => at,
     }
-    at
 }

@@ -5,8 +5,7 @@ use text::octets;
 
 // The n octets from `from` on, or as many of them as there are.
 pub fn stretch(s: &[u8], from: usize, n: usize) -> &[u8] {
-    let start = octets::least(from, s.len());
-    octets::first(&s[start..], n)
+    octets::first(&s[from.min(s.len())..], n)
 }
 
 // "All numbers here are two octets, high octet first": the number at a place, with zeros behind the end.
@@ -20,10 +19,10 @@ pub fn two_octets(s: &[u8], at: usize) -> usize
 pub fn octet(s: &[u8], at: usize) -> usize
     ensures { result < 256 }
 {
-    if at < s.len() {
-        return bits::inner::to_usize(s[at]);
+    match s.get(at) {
+        Some(x) => usize::from(*x),
+        None => 0,
     }
-    0
 }
 
 // A product of two numbers of two octets; 0 where one is larger.

@@ -174,7 +174,7 @@ module _ (n size : ℕ) (new out : List ℕ) (r : ℕ) (found : r ≡ n) where
       let refused : n ≡ 0 → ⊥ = λ q. h (found ∙ q) in
       record { number = found; count = sym (when_refused n size 0 refused); output = sym (when_refused n (new ++ drop size out) out refused) }
 
-  pub wrote_done : r ≡ 0 → (out' : List ℕ) → out' ≡ new ++ drop size out → Wrote n size new out (record { number = r; count = size }) out'
-  wrote_done h out' w =
+  pub wrote_done : r ≡ 0 → (count : ℕ) → count ≡ size → (out' : List ℕ) → out' ≡ new ++ drop size out → Wrote n size new out (record { number = r; count = count }) out'
+  wrote_done h count e out' w =
       let done = sym found ∙ h in
-      record { number = found; count = sym (when-done n size 0 done); output = w ∙ sym (when-done n (new ++ drop size out) out done) }
+      record { number = found; count = e ∙ sym (when-done n size 0 done); output = w ∙ sym (when-done n (new ++ drop size out) out done) }

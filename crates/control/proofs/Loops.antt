@@ -5,8 +5,8 @@ use Prim.Native.Nat.{ℕ, zero, suc, ◌+◌, ◌-◌, ◌*◌, ◌%◌, ◌≤�
 use native.Mathlib.Nat.{add-mul, mul_comm}
 use native.Mathlib.Omega.{arith}
 use lib.Arith.{digits_lt}
-use lib.ListN.{length, get_or, take, drop, set, length-append, length-set, get_or-append}
-use lib.Seq.{get_or-append_seam, get_or-set_same, get_or-set_other, take_at}
+use lib.ListN.{length, get_or, take, drop, length-append, get_or-append}
+use lib.Seq.{get_or-append_seam, take_at}
 use Rattle.bits.specs.Ranges.{list_below}
 use Rattle.bits.proofs.Listed.{length_list, written}
 use Rattle.bits.proofs.Ranges.{last_or, below_or}
@@ -29,101 +29,109 @@ order_more D k (suc m) i h =
       get_or-append (order_to D (k + m)) _ 0 i (omega (arith, e.0)) ∙ e.1,
     ))
 
--- so many rows of the j-th column, which is c, are read, with n places up to there, and p is the place of the stream in the next
-pub record Column (D j c p n : ℕ) : Type 0 where
+-- so many rows of the j-th column are read, with n places up to there, and p is the place of the stream in the next
+pub record Column (D j p n : ℕ) : Type 0 where
+  pub some : 0 < D
+  pub fits : D ≤ 128
+  pub inside : j < 32
   pub row : ℕ
   pub most : row ≤ rows D
-  pub is : row * 32 + c ≡ p + dummies D
+  pub is : row * 32 + get_or columns j 0 ≡ p + dummies D
   pub size : length (order_to D (j * rows D + row)) ≡ n
 
 pub before-none : (D : ℕ) → 0 ≡ before D 0
 unfolding before order_to
 before-none D = let none : 0 * rows D ≡ 0 = omega arith in rw none
 
-module _ (D : ℕ) (some : 0 < D) (most : D ≤ 128) where
-  pub before-all : (j : ℕ) → j ≡ 32 → before D j ≡ D
-  unfolding before order
-  before-all j e = ap (λ (x : ℕ). length (order_to D x)) (ap (λ (x : ℕ). x * rows D) e ∙ mul_comm 32 (rows D)) ∙ order-length D most
+pub before-all : (D : ℕ) → D ≤ 128 → (j : ℕ) → j ≡ 32 → before D j ≡ D
+unfolding before order
+before-all D most j e = ap (λ (x : ℕ). length (order_to D x)) (ap (λ (x : ℕ). x * rows D) e ∙ mul_comm 32 (rows D)) ∙ order-length D most
 
-  module _ (j c : ℕ) (h : j < 32) (e : c ≡ get_or columns j 0) where
-    pub column-low : c < 32
-    column-low = rw e (column_lt j h)
+pub column-first : (D j n p : ℕ) → 0 < D → D ≤ 128 → j < 32 → n ≡ before D j → p ≡ (get_or columns j 0 + D) % 32 → Column D j p n
+unfolding before
+column-first D j n p some fits inside o q =
+    let R = rows_of D some fits in
+    let low = column_lt j inside in
+    let start : j * rows D + 0 ≡ j * rows D = omega arith in
+    let first : matrix_place (rows D) (j * rows D) ≡ get_or columns j 0 = ap (matrix_place (rows D)) (sym start) ∙ read_at (rows D) 0 j R.some ∙ omega arith in
+    below_or (get_or columns j 0) (dummies D)
+    (λ l.
+    let next : j * rows D + 1 ≡ suc (j * rows D) = omega arith in
+    record {
+      some = some;
+      fits = fits;
+      inside = inside;
+      row = 1;
+      most = R.some;
+      is = omega (arith, R.all, R.less, low);
+      size = ap (λ (x : ℕ). length (order_to D x)) next ∙ ap length (order_skip D (j * rows D) (omega arith)) ∙ sym o;
+    })
+    (λ l.
+    record {
+      some = some;
+      fits = fits;
+      inside = inside;
+      row = 0;
+      most = omega arith;
+      is = omega (arith, R.all, R.less, low);
+      size = ap (λ (x : ℕ). length (order_to D x)) start ∙ sym o;
+    })
 
-    pub column-first : (n p : ℕ) → n ≡ before D j → p ≡ (c + D) % 32 → Column D j c p n
-    unfolding before
-    column-first n p o q =
-        let R = rows_of D some most in
-        let start : j * rows D + 0 ≡ j * rows D = omega arith in
-        let first : matrix_place (rows D) (j * rows D) ≡ c = ap (matrix_place (rows D)) (sym start) ∙ read_at (rows D) 0 j R.some ∙ omega (arith, e) in
-        below_or c (dummies D)
-        (λ l.
-        let next : j * rows D + 1 ≡ suc (j * rows D) = omega arith in
-        record { row = 1; most = R.some; is = omega (arith, R.all, R.less, column-low); size = ap (λ (x : ℕ). length (order_to D x)) next ∙ ap length (order_skip D (j * rows D) (omega arith)) ∙ sym o })
-        (λ l. record { row = 0; most = omega arith; is = omega (arith, R.all, R.less, column-low); size = ap (λ (x : ℕ). length (order_to D x)) start ∙ sym o })
+module _ {D j p n : ℕ} (k : Column D j p n) where
+  module _ (l : p < D) where
+    here : ℕ
+    here = j * rows D + k.row
 
-    module _ (p n : ℕ) (k : Column D j c p n) where
-      module _ (l : p < D) where
-        here : ℕ
-        here = j * rows D + k.row
+    inside : k.row < rows D
+    inside = let R = rows_of D k.some k.fits in omega (arith, R.all, k.is)
 
-        inside : k.row < rows D
-        inside = let R = rows_of D some most in omega (arith, R.all, k.is)
+    cell : matrix_place (rows D) here ≡ p + dummies D
+    unfolding here
+    cell = read_at (rows D) k.row j inside ∙ omega (arith, k.is)
 
-        cell : matrix_place (rows D) here ≡ p + dummies D
-        unfolding here
-        cell = read_at (rows D) k.row j inside ∙ omega (arith, e, k.is)
+    more : order_to D (suc here) ≡ order_to D here ++ (p ∷ [])
+    more = order_put D here (omega (arith, cell)) ∙ ap (λ (x : ℕ). order_to D here ++ (x ∷ [])) (omega (arith, cell))
 
-        more : order_to D (suc here) ≡ order_to D here ++ (p ∷ [])
-        more = order_put D here (omega (arith, cell)) ∙ ap (λ (x : ℕ). order_to D here ++ (x ∷ [])) (omega (arith, cell))
+    -- it is the n-th that is sent
+    pub column-at : (n < D) × (p ≡ place D n)
+    unfolding place order here
+    column-at =
+        let size : length (order_to D here) ≡ n = k.size in
+        let longer : length (order_to D (suc here)) ≡ n + 1 = ap length more ∙ length-append (order_to D here) (p ∷ []) ∙ omega arith in
+        let left : suc here + (rows D * 32 - suc here) ≡ rows D * 32 = omega (arith, digits_lt k.inside inside, mul_comm 32 (rows D)) in
+        let on = order_more D (suc here) (rows D * 32 - suc here) n (omega arith) in
+        let whole : length (order_to D (suc here + (rows D * 32 - suc here))) ≡ D = ap (λ (x : ℕ). length (order_to D x)) left ∙ order-length D k.fits in (
+          omega (arith, on.0),
+          sym (ap (λ (x : ℕ). get_or (order_to D x) n 0) (sym left) ∙ on.1 ∙ ap₂ (λ (y : List ℕ) (i : ℕ). get_or y i 0) more (sym size) ∙ get_or-append_seam (order_to D here) p [] 0),
+        )
 
-        -- it is the n-th that is sent
-        pub column-at : (n < D) × (p ≡ place D n)
-        unfolding place order here
-        column-at =
-            let size : length (order_to D here) ≡ n = k.size in
-            let longer : length (order_to D (suc here)) ≡ n + 1 = ap length more ∙ length-append (order_to D here) (p ∷ []) ∙ omega arith in
-            let left : suc here + (rows D * 32 - suc here) ≡ rows D * 32 = omega (arith, digits_lt h inside, mul_comm 32 (rows D)) in
-            let on = order_more D (suc here) (rows D * 32 - suc here) n (omega arith) in
-            let whole : length (order_to D (suc here + (rows D * 32 - suc here))) ≡ D = ap (λ (x : ℕ). length (order_to D x)) left ∙ order-length D most in (
-              omega (arith, on.0),
-              sym (ap (λ (x : ℕ). get_or (order_to D x) n 0) (sym left) ∙ on.1 ∙ ap₂ (λ (y : List ℕ) (i : ℕ). get_or y i 0) more (sym size) ∙ get_or-append_seam (order_to D here) p [] 0),
-            )
+    pub column-turn : Column D j (p + 32) (n + 1)
+    unfolding here
+    column-turn =
+        let next : j * rows D + (k.row + 1) ≡ suc here = omega arith in
+        record {
+          some = k.some;
+          fits = k.fits;
+          inside = k.inside;
+          row = k.row + 1;
+          most = omega (arith, inside);
+          is = omega (arith, k.is);
+          size = ap (λ (x : ℕ). length (order_to D x)) next ∙ ap length more ∙ length-append (order_to D here) (p ∷ []) ∙ omega (arith, k.size);
+        }
 
-        pub column-turn : Column D j c (p + 32) (n + 1)
-        unfolding here
-        column-turn =
-            let next : j * rows D + (k.row + 1) ≡ suc here = omega arith in
-            record {
-              row = k.row + 1;
-              most = omega (arith, inside);
-              is = omega (arith, k.is);
-              size = ap (λ (x : ℕ). length (order_to D x)) next ∙ ap length more ∙ length-append (order_to D here) (p ∷ []) ∙ omega (arith, k.size);
-            }
+  pub column-end : D ≤ p → n ≡ before D (j + 1)
+  unfolding before
+  column-end l =
+      let R = rows_of D k.some k.fits in
+      let all : k.row ≡ rows D = omega (arith, R.all, k.is, k.most, column_lt j k.inside) in
+      let next : j * rows D + k.row ≡ (j + 1) * rows D = omega (arith, add-mul j 1 (rows D)) in
+      sym k.size ∙ ap (λ (x : ℕ). length (order_to D x)) next
 
-      pub column-end : D ≤ p → n ≡ before D (j + 1)
-      unfolding before
-      column-end l =
-          let R = rows_of D some most in
-          let all : k.row ≡ rows D = omega (arith, R.all, k.is, k.most, column-low) in
-          let next : j * rows D + k.row ≡ (j + 1) * rows D = omega (arith, add-mul j 1 (rows D)) in
-          sym k.size ∙ ap (λ (x : ℕ). length (order_to D x)) next
+-- so there are fewer than D up to there
+pub column_bound : {D j p n : ℕ} → Column D j p n → p < D → n < D
+column_bound k l = (column-at k l).0
 
 -- ---- three streams in one pass
-
--- the three places written one after the other
-pub three_put : (D k x y z : ℕ) (a : List ℕ) → k < D → D + D + D ≤ length a → Three D k x y z a (set (set (set a k x) (D + k) y) (D + D + k) z)
-three_put D k x y z a h room =
-    let b = set a k x in
-    let c = set b (D + k) y in
-    let lb : length b ≡ length a = length-set a k x in
-    let lc : length c ≡ length b = length-set b (D + k) y in
-    record {
-      len = length-set c (D + D + k) z ∙ lc ∙ lb;
-      first = get_or-set_other c (D + D + k) k z 0 (λ q. omega arith) ∙ get_or-set_other b (D + k) k y 0 (λ q. omega arith) ∙ get_or-set_same a k x 0 (omega arith);
-      second = get_or-set_other c (D + D + k) (D + k) z 0 (λ q. omega arith) ∙ get_or-set_same b (D + k) y 0 (omega arith);
-      third = get_or-set_same c (D + D + k) z 0 (omega arith);
-      other = λ p u v w. get_or-set_other c (D + D + k) p z 0 w ∙ get_or-set_other b (D + k) p y 0 v ∙ get_or-set_other a k p x 0 u;
-    }
 
 -- what holds of each stream holds of all places
 each_of_three : (D : ℕ) (P : ℕ → Type 0) → ((j : ℕ) → j < D → P j) → ((j : ℕ) → j < D → P (D + j)) → ((j : ℕ) → j < D → P (D + D + j))
@@ -175,11 +183,17 @@ module _ (D : ℕ) (some : 0 < D) (most : D ≤ 128) where
       (ap (λ (i : ℕ). get_or S i 0) (ap (λ (i : ℕ). D + i) e ∙ sym (spot-second D some most j h)))
       (ap (λ (i : ℕ). get_or S i 0) (ap (λ (i : ℕ). D + D + i) e ∙ sym (spot-third D some most j h))) t s
 
-  pub collected-all : (S a b : List ℕ) (j : ℕ) → j ≡ D → D + D + D ≤ length a → Threes D (λ k. get_or S (spot D k) 0) j a b → take (D + D + D) b ≡ collected D S
+  pub collected_on : {j p n : ℕ} (S a b c : List ℕ) → Column D j p n → p < D → Threes D (λ k. get_or S (spot D k) 0) n a b
+      → Three D n (get_or S p 0) (get_or S (D + p) 0) (get_or S (D + D + p) 0) b c → Threes D (λ k. get_or S (spot D k) 0) (n + 1) a c
+  collected_on {p = p} {n} S a b c k l t s = let at = column-at k l in collected_turn S a b c n p at.0 at.1 t s
+
+  pub collected-all : (S a b : List ℕ) (j : ℕ) → j ≡ D → D + D + D ≤ length a → Threes D (λ k. get_or S (spot D k) 0) j a b → take (3 * D) b ≡ collected D S
   unfolding collected
   collected-all S a b j e room t =
-      ap (take (D + D + D)) (threes_all D (λ k. get_or S (spot D k) 0) a j b e room t)
-      ∙ take_at (list_below (D + D + D) (λ k. get_or S (spot D k) 0)) _ (D + D + D) (length_list (D + D + D) (λ k. get_or S (spot D k) 0))
+      let three : 3 * D ≡ D + D + D = omega arith in
+      rw three
+      (ap (take (D + D + D)) (threes_all D (λ k. get_or S (spot D k) 0) a j b e room t)
+      ∙ take_at (list_below (D + D + D) (λ k. get_or S (spot D k) 0)) _ (D + D + D) (length_list (D + D + D) (λ k. get_or S (spot D k) 0)))
 
   pub scattered_none : (bits a : List ℕ) → Scattered D bits 0 a a
   scattered_none bits a =
@@ -213,6 +227,10 @@ module _ (D : ℕ) (some : 0 < D) (most : D ≤ 128) where
             (λ q. ap (λ (i : ℕ). get_or c (D + D + i) 0) (ap (place D) q ∙ sym e) ∙ s.third ∙ ap (λ (i : ℕ). get_or bits (D + D + i) 0) (sym q));
         above = λ i m. s.other i (λ q. omega arith) (λ q. omega arith) (λ q. omega arith) ∙ t.above i m;
       }
+
+  pub scattered_on : {j p n : ℕ} (bits a b c : List ℕ) → Column D j p n → p < D → Scattered D bits n a b
+      → Three D p (get_or bits n 0) (get_or bits (D + n) 0) (get_or bits (D + D + n) 0) b c → Scattered D bits (n + 1) a c
+  scattered_on {p = p} {n} bits a b c k l t s = let at = column-at k l in scattered_turn n p bits a b c at.0 at.1 t s
 
   pub scattered_whole : (k : ℕ) (bits a b : List ℕ) → k ≡ D → Scattered D bits k a b → Scattered D bits D a b
   scattered_whole k bits a b e s = rw e at s

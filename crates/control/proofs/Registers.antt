@@ -6,7 +6,7 @@ use native.Mathlib.Nat.{add_assoc}
 use native.Mathlib.Numerals.{add-one}
 use native.Mathlib.Omega.{arith}
 use lib.ListN.{length, get_or, take, drop, length-drop, length-append, take-append-drop, drop_of_length-le, get_or-append}
-use lib.Seq.{drop-cons, get_or-append-add, take_at}
+use lib.Seq.{drop-cons, get_or-append-add, take_at, take_all}
 use Rattle.bits.specs.Bits.{AreBits}
 use Rattle.bits.proofs.Lists.{bits-take, bits-append}
 use Rattle.bits.proofs.Listed.{list_of}
@@ -55,12 +55,13 @@ preset_lt c h m = let e = comes_round 0 c (omega arith) h m in omega (arith, aft
 
 -- ---- the loops
 
-pub preset_turn : (s from i r : ℕ) (c : List ℕ) → from + i < length c → r ≡ get_or c (from + i) 0 * 64 + s
-    → after s (drop (from + i) c) ≡ after (r / 2) (drop (from + (i + 1)) c)
+pub preset-first : (c : List ℕ) → after 0 (take (length c - (length c - 6)) (drop (length c - 6) c)) ≡ preset c
+unfolding preset
+preset-first c = ap (after 0) (take_all (length c - (length c - 6)) (drop (length c - 6) c) (omega (arith, length-drop (length c - 6) c)))
+
+pub preset_turn : (s i r : ℕ) (c : List ℕ) → i < length c → r ≡ get_or c i 0 * 64 + s → after s (drop i c) ≡ after (r / 2) (drop (i + 1) c)
 unfolding after
-preset_turn s from i r c h e =
-    let next : from + (i + 1) ≡ suc (from + i) = omega arith in
-    rw (e, next, drop-cons c (from + i) 0)
+preset_turn s i r c h e = rw (e, add-one, drop-cons c i 0)
 
 pub preset_end : (s i : ℕ) (c : List ℕ) → length c ≤ i → after s (drop i c) ≡ s
 unfolding after
@@ -148,8 +149,10 @@ streams-bits c =
     (bits-append (stream 0o171 (preset c) c) _ (stream_bits 0o171 (preset c) c) (stream_bits 0o165 (preset c) c))
 
 -- they stand in front where they were written
-pub coded-front : (c a b : List ℕ) → b ≡ streams c ++ drop (length c + length c + length c) a → take (length c + length c + length c) b ≡ streams c
-coded-front c a b e = ap (take (length c + length c + length c)) e ∙ take_at (streams c) _ (length c + length c + length c) (length-streams c)
+pub coded-front : (c a b : List ℕ) → b ≡ streams c ++ drop (length c + length c + length c) a → take (3 * length c) b ≡ streams c
+coded-front c a b e =
+    let three : 3 * length c ≡ length c + length c + length c = omega arith in
+    rw three (ap (take (length c + length c + length c)) e ∙ take_at (streams c) _ (length c + length c + length c) (length-streams c))
 
 pub coded-bits : (c x : List ℕ) → x ≡ streams c → AreBits x
 coded-bits c x e = rw e (streams-bits c)

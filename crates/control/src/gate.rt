@@ -1,10 +1,11 @@
-// What the public calls refuse: the first number that applies, found before anything is written.
+// What the public calls refuse: the first refusal that applies, found before anything is written.
 ghost use Rattle.std.specs.Prelude.{◌≡◌};
 ghost use Rattle.bits.specs.Ranges.{within};
+ghost use Rattle.bits.specs.Refusals.{number_of};
 ghost use Rattle.control.specs.Promises.{code_word_number, match_streams_number, send_word_number, streams_of_number};
 
 use bits::count::CodedBits;
-use bits::number::{CONTROL_LENGTH, DONE, NO_BIT, NO_ROOM, PARAMETER, SHORT_OUTPUT, UNSENT};
+use bits::number::Refusal;
 
 // "Inputs are 6 to 128 bits."
 fn is_length(d: usize) -> bool
@@ -20,89 +21,84 @@ fn is_count(e: usize) -> bool
     bits::inner::is_within(1, 65536, e)
 }
 
-pub fn code_number(word: &[u8], lent: usize) -> u32
-    ensures { result ≡ code_word_number word.now lent }
+#[tactic(auto, unfolding(crate::specs::Promises::code_word_number, bits::specs::Numbers::answered))]
+pub fn admit_code(word: &[u8], lent: usize) -> Result<(), Refusal>
+    ensures { number_of result ≡ code_word_number word.now lent }
 {
-    let d = word.len();
-    if !is_length(d) {
-        return CONTROL_LENGTH;
+    if !is_length(word.len()) {
+        return Err(Refusal::ControlLength);
     }
-    if lent < d + d + d {
-        return SHORT_OUTPUT;
+    if lent < 3 * word.len() {
+        return Err(Refusal::ShortOutput);
     }
     if bits::inner::some_over(1, word) {
-        return NO_BIT;
+        return Err(Refusal::NoBit);
     }
-    DONE
+    Ok(())
 }
 
-pub fn match_number(d: usize, streams: &[u8], e: CodedBits, lent: usize) -> u32
-    ensures { result ≡ match_streams_number d streams.now e.0 lent }
+#[tactic(auto, unfolding(crate::specs::Promises::match_streams_number, bits::specs::Numbers::answered))]
+pub fn admit_match(d: usize, streams: &[u8], e: CodedBits, lent: usize) -> Result<(), Refusal>
+    ensures { number_of result ≡ match_streams_number d streams.now e.0 lent }
 {
-    let end = e.0;
     if !is_length(d) {
-        return CONTROL_LENGTH;
+        return Err(Refusal::ControlLength);
     }
-    if !is_count(end) {
-        return PARAMETER;
+    if !is_count(e.0) || streams.len() != 3 * d {
+        return Err(Refusal::Parameter);
     }
-    if streams.len() != d + d + d {
-        return PARAMETER;
-    }
-    if lent < end {
-        return SHORT_OUTPUT;
+    if lent < e.0 {
+        return Err(Refusal::ShortOutput);
     }
     if bits::inner::some_over(1, streams) {
-        return NO_BIT;
+        return Err(Refusal::NoBit);
     }
-    DONE
+    Ok(())
 }
 
-pub fn send_number(word: &[u8], e: CodedBits, lent: usize) -> u32
-    ensures { result ≡ send_word_number word.now e.0 lent }
+#[tactic(auto, unfolding(crate::specs::Promises::send_word_number, bits::specs::Numbers::answered))]
+pub fn admit_send(word: &[u8], e: CodedBits, lent: usize) -> Result<(), Refusal>
+    ensures { number_of result ≡ send_word_number word.now e.0 lent }
 {
-    let end = e.0;
-    let length = is_length(word.len());
-    let count = is_count(end);
-    if !length {
-        return CONTROL_LENGTH;
+    let length = word.len();
+    if !is_length(length) {
+        return Err(Refusal::ControlLength);
     }
-    if !count {
-        return PARAMETER;
+    if !is_count(e.0) {
+        return Err(Refusal::Parameter);
     }
-    if lent < end {
-        return SHORT_OUTPUT;
+    if lent < e.0 {
+        return Err(Refusal::ShortOutput);
     }
     if bits::inner::some_over(1, word) {
-        return NO_BIT;
+        return Err(Refusal::NoBit);
     }
-    DONE
+    Ok(())
 }
 
 // Any first 3d bits are those of some three streams, so bits that none give are bits whose copies differ.
-pub fn back_number(d: usize, bits: &[u8], lent: usize) -> u32
-    ensures { result ≡ streams_of_number d bits.now lent }
+#[tactic(auto, using(crate::proofs::Answers::streams_decided), unfolding(crate::specs::Promises::streams_of_number, bits::specs::Numbers::answered))]
+pub fn admit_back(d: usize, bits: &[u8], lent: usize) -> Result<(), Refusal>
+    ensures { number_of result ≡ streams_of_number d bits.now lent }
 {
-    let e = bits.len();
     if !is_length(d) {
-        return CONTROL_LENGTH;
+        return Err(Refusal::ControlLength);
     }
-    if !is_count(e) {
-        return PARAMETER;
+    if !is_count(bits.len()) {
+        return Err(Refusal::Parameter);
     }
-    let two = d + d;
-    let n = two + d;
+    let n = 3 * d;
     if lent < n {
-        return SHORT_OUTPUT;
+        return Err(Refusal::ShortOutput);
     }
     if bits::inner::some_over(1, bits) {
-        return NO_BIT;
+        return Err(Refusal::NoBit);
     }
-    if e < n {
-        return NO_ROOM;
+    if bits.len() < n {
+        return Err(Refusal::NoRoom);
     }
     if !matching::inner::copies_agree(bits, CodedBits(n)) {
-        return UNSENT;
+        return Err(Refusal::Unsent);
     }
-    DONE
+    Ok(())
 }

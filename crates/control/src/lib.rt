@@ -9,58 +9,49 @@ mod register;
 mod streams;
 mod three;
 
+ghost use Rattle.bits.specs.Refusals.{written};
 ghost use Rattle.control.specs.Promises.{WordCoded, StreamsMatched, WordSent, StreamsFound};
 
 use bits::count::CodedBits;
-use bits::number::{DONE, Written};
+use bits::number::Refusal;
 
-// Writes the three streams of a word.
-pub fn code_word(word: &[u8], out: &mut [u8]) -> Written
-    ensures { WordCoded word.now out.old result out.new }
+// Writes the three streams of a word, and answers, as each call here, how many octets it wrote.
+pub fn code_word(word: &[u8], out: &mut [u8]) -> Result<usize, Refusal>
+    ensures { WordCoded word.now out.old (written result) out.new }
 {
-    let number = gate::code_number(word, out.len());
-    if number != DONE {
-        return Written { number, count: 0 };
-    }
+    gate::admit_code(word, out.len())?;
     register::put_streams(word, out);
-    let d = word.len();
-    let count = d + d + d;
-    Written { number, count }
+    Ok(3 * word.len())
 }
 
 // Writes the e bits that three streams of d bits are sent as.
-pub fn match_streams(d: usize, streams: &[u8], e: CodedBits, out: &mut [u8]) -> Written
-    ensures { StreamsMatched d streams.now e.0 out.old result out.new }
+pub fn match_streams(
+    d: usize,
+    streams: &[u8],
+    e: CodedBits,
+    out: &mut [u8],
+) -> Result<usize, Refusal>
+    ensures { StreamsMatched d streams.now e.0 out.old (written result) out.new }
 {
-    let number = gate::match_number(d, streams, e, out.len());
-    if number != DONE {
-        return Written { number, count: 0 };
-    }
+    gate::admit_match(d, streams, e, out.len())?;
     streams::send(d, streams, e, out);
-    Written { number, count: e.0 }
+    Ok(e.0)
 }
 
 // Writes the e bits that a word is sent as.
-pub fn send_word(word: &[u8], e: CodedBits, out: &mut [u8]) -> Written
-    ensures { WordSent word.now e.0 out.old result out.new }
+pub fn send_word(word: &[u8], e: CodedBits, out: &mut [u8]) -> Result<usize, Refusal>
+    ensures { WordSent word.now e.0 out.old (written result) out.new }
 {
-    let number = gate::send_number(word, e, out.len());
-    if number != DONE {
-        return Written { number, count: 0 };
-    }
+    gate::admit_send(word, e, out.len())?;
     streams::send_coded(word, e, out);
-    Written { number, count: e.0 }
+    Ok(e.0)
 }
 
 // Writes the three streams of d bits that are sent as the bits.
-pub fn streams_of(d: usize, bits: &[u8], out: &mut [u8]) -> Written
-    ensures { StreamsFound d bits.now out.old result out.new }
+pub fn streams_of(d: usize, bits: &[u8], out: &mut [u8]) -> Result<usize, Refusal>
+    ensures { StreamsFound d bits.now out.old (written result) out.new }
 {
-    let number = gate::back_number(d, bits, out.len());
-    if number != DONE {
-        return Written { number, count: 0 };
-    }
+    gate::admit_back(d, bits, out.len())?;
     streams::put_back(d, bits, out);
-    let count = d + d + d;
-    Written { number, count }
+    Ok(3 * d)
 }

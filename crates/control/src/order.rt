@@ -1,19 +1,11 @@
 // The order in which a stream is sent: which column of the interleaver is read when, and where in the stream its first bit stands.
 ghost use Rattle.std.specs.Prelude.{◌≡◌, ◌+◌, ◌%◌, ◌≤◌, ◌<◌};
-ghost use Rattle.control.specs.Interleaver.{columns};
 
 // Table 5.1.4.2.1-1.
-const COLUMNS: [usize; 32] = [
+pub static COLUMNS: [usize; 32] = [
     1, 17, 9, 25, 5, 21, 13, 29, 3, 19, 11, 27, 7, 23, 15, 31, 0, 16, 8, 24, 4, 20, 12, 28, 2, 18,
     10, 26, 6, 22, 14, 30,
 ];
-
-// A const is built anew wherever it is named, so the table is named once for a call.
-pub fn columns() -> [usize; 32]
-    ensures { result ≡ columns }
-{
-    COLUMNS
-}
 
 // The place in a stream of d bits of the first bit in the column c. The dummies in front move every bit by as many cells, and 32 cells are a row: so it is
 // the one at (c + d) mod 32, and the column's next bits stand 32 apart. No cell has to be tested for a dummy.

@@ -11,7 +11,7 @@ fn above(x: u8, s: u32) -> u32
     requires { (x < 2) × (s < 64) }
     ensures { (result ≡ x * 64 + s) × (result < 128) }
 {
-    (x as u32) * 64 + s
+    u32::from(x) * 64 + s
 }
 
 // The state after the last six bits.
@@ -19,12 +19,9 @@ fn preset(word: &[u8]) -> u32
     requires { (6 ≤ length word.now) × AreBits word.now }
     ensures { (result ≡ preset word.now) × (result < 64) }
 {
-    let from = word.len() - 6;
-    let mut s: u32 = 0;
-    let mut i = 0;
-    while i < 6 {
-        s = above(word[from + i], s) / 2;
-        i += 1;
+    let mut s = 0;
+    for x in &word[word.len() - 6..] {
+        s = above(*x, s) / 2;
     }
     s
 }
@@ -36,14 +33,12 @@ pub fn put_streams(word: &[u8], out: &mut [u8])
 {
     let d = word.len();
     let mut s = preset(word);
-    let mut k = 0;
-    while k < d {
-        let r = above(word[k], s);
+    for (k, bit) in word.iter().enumerate() {
+        let r = above(*bit, s);
         let x = output(0o133, r);
         let y = output(0o171, r);
         let z = output(0o165, r);
         put_three(out, d, k, x, y, z);
         s = r / 2;
-        k += 1;
     }
 }

@@ -1,46 +1,27 @@
 // Three streams and the bits that they are sent as, both ways.
-ghost use Rattle.std.specs.Prelude.{◌≡◌, true, ◌++◌, ◌+◌, ◌≤◌, ◌<◌, length, get_or, take, drop};
+ghost use Rattle.std.specs.Prelude.{◌≡◌, true, ◌++◌, ◌+◌, ◌*◌, ◌≤◌, ◌<◌, length, take, drop};
 ghost use Rattle.bits.specs.Bits.{AreBits};
 ghost use Rattle.control.specs.Register.{streams};
-ghost use Rattle.control.specs.Interleaver.{columns, sent};
+ghost use Rattle.control.specs.Interleaver.{sent};
 ghost use Rattle.control.specs.Back.{some_streams, streams_as};
-ghost use Rattle.control.specs.Steps.Order.{before, collected, CollectedOn, ScatteredOn};
+ghost use Rattle.control.specs.Steps.Order.{collected};
 
+use crate::order::{COLUMNS, first_place};
+use crate::register;
 use crate::three::put_three;
-use crate::{order, register};
 use bits::count::CodedBits;
-
-// Writes the bits of the j-th column that is read, which is the column c of the matrix, of three streams, behind the n of each before them, and answers
-// how many of each there are then.
-fn collect_column(d: usize, j: usize, c: usize, streams: &[u8], out: &mut [u8], n: usize) -> usize
-    requires { (0 < d) × (d ≤ 128) × (j < 32) × (c ≡ get_or columns j 0) × (n ≡ before d j) × (d + d + d ≤ length streams.now) × (d + d + d ≤ length out.old) }
-    ensures { (result ≡ before d (j + 1)) × CollectedOn d streams.now n result out.old out.new }
-{
-    let two = d + d;
-    let mut m = n;
-    let mut p = order::first_place(d, c);
-    while p < d {
-        let x = streams[p];
-        let y = streams[d + p];
-        let z = streams[two + p];
-        put_three(out, d, m, x, y, z);
-        m += 1;
-        p += 32;
-    }
-    m
-}
 
 // Writes the bits of three streams in the order in which they are sent, each once.
 fn collect(d: usize, streams: &[u8], out: &mut [u8])
     requires { (0 < d) × (d ≤ 128) × (d + d + d ≤ length streams.now) × (d + d + d ≤ length out.old) }
-    ensures { take (d + d + d) out.new ≡ collected d streams.now }
+    ensures { take (3 * d) out.new ≡ collected d streams.now }
 {
-    let columns = order::columns();
     let mut n = 0;
-    let mut j = 0;
-    while j < 32 {
-        n = collect_column(d, j, columns[j], streams, out, n);
-        j += 1;
+    for c in &COLUMNS {
+        for p in (first_place(d, *c)..d).step_by(32) {
+            put_three(out, d, n, streams[p], streams[d + p], streams[d + d + p]);
+            n += 1;
+        }
     }
 }
 
@@ -51,8 +32,7 @@ pub fn send(d: usize, streams: &[u8], e: CodedBits, out: &mut [u8])
 {
     let mut room = [0u8; 384];
     collect(d, streams, &mut room);
-    let n = d + d + d;
-    matching::inner::match_filled(&room[..n], 0, 0, 0, e, out);
+    matching::inner::match_filled(&room[..3 * d], 0, 0, 0, e, out);
 }
 
 // Writes the e bits that a word is sent as.
@@ -63,40 +43,20 @@ pub fn send_coded(word: &[u8], e: CodedBits, out: &mut [u8])
     let mut room = [0u8; 384];
     register::put_streams(word, &mut room);
     let d = word.len();
-    let all = d + d + d;
-    send(d, &room[..all], e, out);
-}
-
-// Puts the bits of the j-th column that is read, which is the column c of the matrix, at their places of three streams: the n-th bit of each third and
-// those behind it. It answers as `collect_column` does.
-fn scatter_column(d: usize, j: usize, c: usize, bits: &[u8], out: &mut [u8], n: usize) -> usize
-    requires { (0 < d) × (d ≤ 128) × (j < 32) × (c ≡ get_or columns j 0) × (n ≡ before d j) × (d + d + d ≤ length bits.now) × (d + d + d ≤ length out.old) }
-    ensures { (result ≡ before d (j + 1)) × ScatteredOn d bits.now n result out.old out.new }
-{
-    let two = d + d;
-    let mut m = n;
-    let mut p = order::first_place(d, c);
-    while p < d {
-        let x = bits[m];
-        let y = bits[d + m];
-        let z = bits[two + m];
-        put_three(out, d, p, x, y, z);
-        m += 1;
-        p += 32;
-    }
-    m
+    send(d, &room[..3 * d], e, out);
 }
 
 // Writes the three streams that are sent as the bits: each of the first 3d bits at its place.
+// It walks as `collect` does: a table of the order for both makes the way back take 1.6 times as long, and what a closure writes to out a proof does not know.
 pub fn put_back(d: usize, bits: &[u8], out: &mut [u8])
     requires { (6 ≤ d) × (d ≤ 128) × AreBits bits.now × (d + d + d ≤ length bits.now) × (d + d + d ≤ length out.old) × (some_streams d bits.now ≡ true) }
     ensures { out.new ≡ streams_as d bits.now ++ drop (d + d + d) out.old }
 {
-    let columns = order::columns();
     let mut n = 0;
-    let mut j = 0;
-    while j < 32 {
-        n = scatter_column(d, j, columns[j], bits, out, n);
-        j += 1;
+    for c in &COLUMNS {
+        for p in (first_place(d, *c)..d).step_by(32) {
+            put_three(out, d, p, bits[n], bits[d + n], bits[d + d + n]);
+            n += 1;
+        }
     }
 }

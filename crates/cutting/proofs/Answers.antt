@@ -5,7 +5,9 @@ use mathlib.Core.List.{List, [], ◌∷◌}
 use Prim.Native.Nat.{ℕ}
 use Rattle.bits.specs.Numbers.{answered}
 use Rattle.bits.specs.Ranges.{within}
-use Rattle.bits.proofs.Answers.{when-done, when_refused}
+use Rattle.bits.proofs.Answers.{when-done, when_refused, refusal-numbered}
+use Rattle.bits.specs.Refusals.{refusal_number}
+use Rattle.bits.specs.declared.number.Refusal.{Refusal}
 use Rattle.profile.specs.Promises.{judged}
 use Rattle.profile.proofs.Answers.{judged-first, judged-passed}
 use Rattle.cutting.specs.Plan.{block_bits, other_edition, too_many_blocks}
@@ -46,6 +48,11 @@ module _ (R : List ℕ) (ed : ℕ) where
     unfolding planned
     refused-planned n e some =
         rw (when_refused (plan_number R ed octets) (cutting R ed (block_bits octets)) (refusal (plan_number R ed octets)) (λ q. some (e ∙ q)), e)
+
+    -- a record that is not judged with 0 is refused as it is judged
+    pub unjudged-planned : (e : Refusal) → refusal_number e ≡ judged R → refusal (refusal_number e) ≡ planned R ed octets
+    unjudged-planned e q =
+        refused-planned (refusal_number e) (q ∙ sym (plan_unjudged octets (λ z. refusal-numbered e (q ∙ z)))) (refusal-numbered e)
 
     pub cutting-planned : plan_number R ed octets ≡ 0 → cutting R ed (block_bits octets) ≡ planned R ed octets
     unfolding planned

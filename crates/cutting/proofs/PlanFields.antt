@@ -5,7 +5,7 @@ use Prim.Native.Nat.{ℕ, ◌*◌, ◌≤◌, ◌<◌}
 use Rattle.profile.specs.Record.{kb, t, z, columns}
 use Rattle.profile.specs.Promises.{judged}
 use Rattle.cutting.specs.Plan.{block_bits, sum_bits, blocks, size_index, places}
-use Rattle.cutting.specs.Promises.{plan_number, planned}
+use Rattle.cutting.specs.Promises.{plan_number, done_plan, planned}
 use Rattle.cutting.specs.declared.Plan.{Plan}
 use Rattle.cutting.specs.Steps.Plans.{PlanOf, SomePlan, IsSum}
 use Rattle.cutting.proofs.Summed.{is_sum}
@@ -22,10 +22,10 @@ pub record PlanFields (R : List ℕ) (ed : ℕ) (p : Plan) : Type 0 where
   pub index_is : p.index ≡ size_index R ed p.bits
   pub sums_is : p.sums ≡ sum_bits R ed p.bits
 
-module _ (R : List ℕ) (ed octets : ℕ) (p : Plan) (plan : p ≡ planned R ed octets) where
+module _ (R : List ℕ) (ed octets : ℕ) (p : Plan) (plan : done_plan p ≡ planned R ed octets) where
   module _ (e : plan_number R ed octets ≡ 0) where
     pub bits_is : p.bits ≡ block_bits octets
-    bits_is = plan-bits R ed octets p plan e
+    bits_is = plan-bits R ed octets (done_plan p) plan e
 
     pub plan-fields : PlanFields R ed p
     plan-fields =
@@ -33,19 +33,19 @@ module _ (R : List ℕ) (ed octets : ℕ) (p : Plan) (plan : p ≡ planned R ed 
         record {
           accepted = (plan-passed R ed octets e).0;
           cut = rw b at (plan-cut R ed octets e);
-          blocks_is = plan-blocks R ed octets p plan e ∙ ap (blocks R ed) b;
-          places_is = plan-places R ed octets p plan e ∙ ap (places R ed) b;
-          z_is = plan-z R ed octets p plan e ∙ ap (λ (n : ℕ). z R (size_index R ed n)) b;
-          index_is = plan_index R ed octets p plan e ∙ ap (size_index R ed) b;
-          sums_is = plan-sums R ed octets p plan e ∙ ap (sum_bits R ed) b;
+          blocks_is = plan-blocks R ed octets (done_plan p) plan e ∙ ap (blocks R ed) b;
+          places_is = plan-places R ed octets (done_plan p) plan e ∙ ap (places R ed) b;
+          z_is = plan-z R ed octets (done_plan p) plan e ∙ ap (λ (n : ℕ). z R (size_index R ed n)) b;
+          index_is = plan_index R ed octets (done_plan p) plan e ∙ ap (size_index R ed) b;
+          sums_is = plan-sums R ed octets (done_plan p) plan e ∙ ap (sum_bits R ed) b;
         }
 
     pub blocks-are : p.blocks ≡ blocks R ed (block_bits octets)
-    blocks-are = plan-blocks R ed octets p plan e
+    blocks-are = plan-blocks R ed octets (done_plan p) plan e
 
--- a plan with number 0 is one
-pub plan-of : (R : List ℕ) (ed octets : ℕ) (p : Plan) → p ≡ planned R ed octets → p.number ≡ 0 → PlanOf R ed p
-plan-of R ed octets p plan zero = record { octets = octets; taken = sym (plan-number R ed octets p plan) ∙ zero; plan = plan }
+-- a plan that is answered is one
+pub plan-of : (R : List ℕ) (ed octets : ℕ) (p : Plan) → done_plan p ≡ planned R ed octets → PlanOf R ed p
+plan-of R ed octets p plan = record { octets = octets; taken = sym (plan-number R ed octets (done_plan p) plan); plan = plan }
 
 pub of_fields : (R : List ℕ) (ed : ℕ) (p : Plan) → PlanOf R ed p → PlanFields R ed p
 of_fields R ed p s = plan-fields R ed s.octets p s.plan s.taken

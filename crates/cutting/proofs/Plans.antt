@@ -2,23 +2,27 @@
 use mathlib.Core.Path.{◌≡◌, refl, sym, ap, ◌∙◌}
 use mathlib.Core.Bool.{Bool, false, not}
 use mathlib.Core.List.{List, [], ◌∷◌}
+use Rattle.std.specs.Prelude.{Result, Ok, Err}
 use Prim.Native.Nat.{ℕ, zero, suc, ◌+◌, ◌-◌, ◌*◌, ◌≤◌, ◌<◌}
 use native.Mathlib.Nat.{mul-le-mul, mul-pos, mul_comm, le-mul_of_pos_right}
 use native.Mathlib.Omega.{arith}
 use lib.Dec.{leb, lit<}
 use borrow.Author.Tests.{leb-true, leb-false, not-false, le-leb}
-use Rattle.bits.specs.Ranges.{sum_below, within}
+use Rattle.bits.specs.Ranges.{sum_below, first_below, within}
 use Rattle.bits.specs.Numbers.{when_done}
 use Rattle.bits.specs.Counts.{ceil}
-use Rattle.bits.proofs.Ranges.{equal_or, any_of, First, first_some, within-is}
+use Rattle.bits.proofs.Ranges.{equal_or, below_or, any_of, any_none, First, first_some, first-none, first-is, within-is}
 use Rattle.bits.proofs.Answers.{passed}
 use Rattle.bits.proofs.Rounding.{ceil_covers, ceil-least, ceil-some}
 use Rattle.profile.specs.Record.{kb, t, z, columns}
 use Rattle.profile.specs.Promises.{judged}
 use Rattle.profile.proofs.Accepted.{Accepted, accepted}
 use Rattle.cutting.specs.Plan.{block_bits, kmax, other_edition, sum_bits, blocks, too_many_blocks, own_bits, size_index_for, size_index, places}
-use Rattle.cutting.specs.Promises.{plan_number, cutting, refusal, planned}
+use Rattle.cutting.specs.Promises.{plan_number, cutting, refusal, done_plan, answer_planned, planned}
+use Rattle.bits.specs.declared.number.Refusal.{Refusal}
+use Rattle.bits.specs.Refusals.{number_of}
 use Rattle.cutting.specs.declared.Plan.{Plan}
+use Rattle.cutting.specs.declared.Planned.{Planned}
 use Rattle.cutting.specs.Steps.Plans.{plan_for}
 use Rattle.cutting.proofs.Answers.{plan_unjudged, plan-judged, cutting-planned}
 use Rattle.cutting.proofs.Rounding.{own_sum, own_most, own_some}
@@ -36,6 +40,15 @@ module _ (R : List ℕ) (known : Accepted R) where
       let enough : ℕ → Bool = λ i. leb need (kb R * z R i) in
       let last : t R - 1 < t R = omega (arith, known.t_low) in
       first_some (t R) enough (any_of (t R) enough (t R - 1) last (le-leb need (kb R * z R (t R - 1)) h))
+
+  -- where no size before the last is enough, it is the last
+  pub size-last : (need : ℕ) → need ≤ kmax R → first_below (t R - 1) (λ i. leb need (kb R * z R i)) ≡ size_index_for R need
+  size-last need h =
+      let enough : ℕ → Bool = λ i. leb need (kb R * z R i) in
+      let f = size-first need h in
+      below_or (size_index_for R need) (t R - 1)
+      (λ l. first-is (t R - 1) enough (size_index_for R need) (record { below = l; holds = f.holds; none = f.none }))
+      (λ g. first-none (t R - 1) enough (any_none (t R - 1) enough (λ k l. f.none k (omega arith))) ∙ omega (arith, f.below))
 
   module _ (ed b : ℕ) (some : 0 < b) (fits : sum_bits R ed b < kmax R) where
     -- the places of a block that are left for own bits
@@ -130,40 +143,46 @@ module _ (R : List ℕ) (ed : ℕ) where
 
 -- ---- what a plan says, for its callers: its number, and that with number 0 it is the cutting of its block
 
-numbered : (n : ℕ) (p : Plan) → p.number ≡ 0 → (when_done n p (refusal n)).number ≡ n
+numbered : (n : ℕ) (p : Planned) → p.number ≡ 0 → (when_done n p (refusal n)).number ≡ n
 unfolding when_done refusal
 numbered zero p e = e
 numbered (suc n) p e = refl
 
-pub plan-number : (R : List ℕ) (ed octets : ℕ) (p : Plan) → p ≡ planned R ed octets → p.number ≡ plan_number R ed octets
+pub plan-number : (R : List ℕ) (ed octets : ℕ) (p : Planned) → p ≡ planned R ed octets → p.number ≡ plan_number R ed octets
 unfolding planned cutting
 plan-number R ed octets p e = rw e (numbered (plan_number R ed octets) (cutting R ed (block_bits octets)) refl)
 
-pub plan-done : (R : List ℕ) (ed octets : ℕ) (p : Plan) → p ≡ planned R ed octets → plan_number R ed octets ≡ 0 → p ≡ cutting R ed (block_bits octets)
+pub plan-done : (R : List ℕ) (ed octets : ℕ) (p : Planned) → p ≡ planned R ed octets → plan_number R ed octets ≡ 0 → p ≡ cutting R ed (block_bits octets)
 plan-done R ed octets p e done = e ∙ sym (cutting-planned R ed octets done)
 
 -- and its numbers, one by one
-module _ (R : List ℕ) (ed octets : ℕ) (p : Plan) (plan : p ≡ planned R ed octets) (done : plan_number R ed octets ≡ 0) where
+module _ (R : List ℕ) (ed octets : ℕ) (p : Planned) (plan : p ≡ planned R ed octets) (done : plan_number R ed octets ≡ 0) where
   pub plan-bits : p.bits ≡ block_bits octets
   unfolding cutting
-  plan-bits = ap (λ (q : Plan). q.bits) (plan-done R ed octets p plan done)
+  plan-bits = ap (λ (q : Planned). q.bits) (plan-done R ed octets p plan done)
 
   pub plan-blocks : p.blocks ≡ blocks R ed (block_bits octets)
   unfolding cutting
-  plan-blocks = ap (λ (q : Plan). q.blocks) (plan-done R ed octets p plan done)
+  plan-blocks = ap (λ (q : Planned). q.blocks) (plan-done R ed octets p plan done)
 
   pub plan-places : p.places ≡ places R ed (block_bits octets)
   unfolding cutting
-  plan-places = ap (λ (q : Plan). q.places) (plan-done R ed octets p plan done)
+  plan-places = ap (λ (q : Planned). q.places) (plan-done R ed octets p plan done)
 
   pub plan-z : p.z ≡ z R (size_index R ed (block_bits octets))
   unfolding cutting
-  plan-z = ap (λ (q : Plan). q.z) (plan-done R ed octets p plan done)
+  plan-z = ap (λ (q : Planned). q.z) (plan-done R ed octets p plan done)
 
   pub plan_index : p.index ≡ size_index R ed (block_bits octets)
   unfolding cutting
-  plan_index = ap (λ (q : Plan). q.index) (plan-done R ed octets p plan done)
+  plan_index = ap (λ (q : Planned). q.index) (plan-done R ed octets p plan done)
 
   pub plan-sums : p.sums ≡ sum_bits R ed (block_bits octets)
   unfolding cutting
-  plan-sums = ap (λ (q : Plan). q.sums) (plan-done R ed octets p plan done)
+  plan-sums = ap (λ (q : Planned). q.sums) (plan-done R ed octets p plan done)
+
+-- ---- what an answer says: its number
+pub answer-number : (R : List ℕ) (ed octets : ℕ) (a : Result Plan Refusal) → answer_planned a ≡ planned R ed octets → number_of a ≡ plan_number R ed octets
+unfolding refusal
+answer-number R ed octets (Ok p) e = plan-number R ed octets (done_plan p) e
+answer-number R ed octets (Err r) e = plan-number R ed octets (answer_planned (Err r)) e

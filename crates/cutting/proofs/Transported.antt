@@ -17,7 +17,7 @@ use Rattle.checksum.specs.Steps.Register.{Generator}
 use Rattle.checksum.proofs.Attachment.{checks_sound, checks-complete}
 use Rattle.cutting.specs.Plan.{block_bits}
 use Rattle.cutting.specs.Transport.{transport}
-use Rattle.cutting.specs.Promises.{plan_number, planned}
+use Rattle.cutting.specs.Promises.{plan_number, done_plan, planned}
 use Rattle.cutting.specs.declared.Plan.{Plan}
 use Rattle.cutting.specs.Steps.Plans.{Ready, checked}
 use Rattle.cutting.proofs.PlanFields.{bits_is}
@@ -50,7 +50,7 @@ front-set l vs n e h =
 pub packed-over : (l u : List ℕ) (octets : ℕ) → octets ≤ length l → take octets (sets l 0 (packed octets u)) ≡ packed octets u
 packed-over l u octets h = front-set l (packed octets u) octets (length-packed octets u) h
 
-pub ready-transport : (R : List ℕ) (ed : ℕ) (block : List ℕ) (p : Plan) → plan_number R ed (length block) ≡ 0 → p ≡ planned R ed (length block)
+pub ready-transport : (R : List ℕ) (ed : ℕ) (block : List ℕ) (p : Plan) → plan_number R ed (length block) ≡ 0 → done_plan p ≡ planned R ed (length block)
     → Ready R ed (transport block) p
 ready-transport R ed block p e plan =
     record {

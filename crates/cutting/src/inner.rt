@@ -6,11 +6,11 @@ ghost use Rattle.profile.specs.Promises.{judged};
 ghost use Rattle.cutting.specs.Plan.{block_bits, own_bits};
 ghost use Rattle.cutting.specs.Transport.{transport};
 ghost use Rattle.cutting.specs.Cutting.{with_sum};
-ghost use Rattle.cutting.specs.Promises.{planned};
+ghost use Rattle.cutting.specs.Promises.{planned, answer_planned};
 ghost use Rattle.cutting.specs.Steps.Plans.{checked, IsSum, sum_holds, Placed};
 
 use crate::{Plan, cut};
-use bits::number::{BLOCK_LENGTH, EDITION, TOO_MANY_BLOCKS};
+use bits::number::Refusal;
 
 // A block's own bits.
 pub fn own_bits(bits: usize, blocks: usize, r: usize) -> usize
@@ -27,29 +27,27 @@ pub fn own_bits(bits: usize, blocks: usize, r: usize) -> usize
 
 // How a block of so many octets is cut by a profile that was judged already. Where a checksum would fill a block, Kmax less L is no divisor, so that is tested
 // first.
-pub fn plan_accepted(profile: &[u8], edition: usize, octets: usize) -> Plan
+pub fn plan_accepted(profile: &[u8], edition: usize, octets: usize) -> Result<Plan, Refusal>
     requires { judged profile.now ≡ 0 }
-    ensures { result ≡ planned profile.now edition octets }
+    ensures { answer_planned result ≡ planned profile.now edition octets }
 {
-    let other = cut::is_other_edition(edition);
-    let within = bits::inner::is_within(1, 2048, octets);
-    if other {
-        return cut::refused(EDITION);
+    if cut::is_other_edition(edition) {
+        return Err(Refusal::Edition);
     }
-    if !within {
-        return cut::refused(BLOCK_LENGTH);
+    if !bits::inner::is_within(1, 2048, octets) {
+        return Err(Refusal::BlockLength);
     }
     let bits = 8 * octets + 24;
     let kmax = cut::kmax(profile);
     let sums = cut::sums(edition, bits, kmax);
     if kmax <= sums {
-        return cut::refused(TOO_MANY_BLOCKS);
+        return Err(Refusal::TooManyBlocks);
     }
     let blocks = cut::count(bits, kmax, sums);
     if 64 < blocks {
-        return cut::refused(TOO_MANY_BLOCKS);
+        return Err(Refusal::TooManyBlocks);
     }
-    cut::cutting(profile, bits, kmax, sums, blocks)
+    Ok(cut::cutting(profile, bits, kmax, sums, blocks))
 }
 
 // Lays the transport bits of a block, its bits and their checksum, in front of `bits`. "The data path passes zero" for the mask.
@@ -75,10 +73,9 @@ fn lay_sum(word: &mut [u8], own: usize, sums: usize)
     requires { (own + sums ≤ length word.old) × IsSum sums × AreBits (take own word.old) }
     ensures { take (own + sums) word.new ≡ with_sum sums (take own word.old) }
 {
-    if sums == 0 {
-        return;
+    if sums != 0 {
+        blocksum::inner::append(word, own);
     }
-    blocksum::inner::append(word, own);
 }
 
 // Lays what a block carries in front of the word, its own bits and their checksum, and filler behind it.
@@ -93,12 +90,10 @@ pub fn lay_block(bits: &[u8], start: usize, own: usize, sums: usize, places: usi
 }
 
 // Whether what a block carries ends with the checksum of its own bits, where it has one.
+#[tactic(auto, unfolding(crate::specs::Steps::Plans::sum_holds))]
 pub fn sum_holds(carried: &[u8], sums: usize) -> bool
     requires { (sums ≤ length carried.now) × IsSum sums × AreBits carried.now }
     ensures { result ≡ sum_holds sums carried.now }
 {
-    if sums == 0 {
-        return true;
-    }
-    blocksum::inner::is_appended(carried)
+    sums == 0 || blocksum::inner::is_appended(carried)
 }

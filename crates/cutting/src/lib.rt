@@ -5,15 +5,13 @@ mod cut;
 pub mod inner;
 
 ghost use Rattle.std.specs.Prelude.{◌≡◌};
-ghost use Rattle.cutting.specs.Promises.{planned};
+ghost use Rattle.cutting.specs.Promises.{planned, answer_planned};
 
-use bits::number::DONE;
+use bits::number::Refusal;
 
-// How a transport block is cut, all 0 with a refusal.
-#[repr(C)]
+// How a transport block is cut.
 #[derive(Clone, Copy)]
 pub struct Plan {
-    pub number: u32,
     // B, the bits of the block and its checksum.
     pub bits: usize,
     pub kmax: usize,
@@ -28,13 +26,54 @@ pub struct Plan {
     pub sums: usize,
 }
 
-// How a transport block of so many octets is cut, in either edition.
-pub fn plan_block(profile: &[u8], edition: usize, octets: usize) -> Plan
-    ensures { result ≡ planned profile.now edition octets }
-{
-    let number = profile::judge(profile);
-    if number != DONE {
-        return cut::refused(number);
+// What C is answered: a number and, where it is 0, a plan. All else is 0 with a refusal.
+#[repr(C)]
+#[derive(Clone, Copy)]
+pub struct Planned {
+    pub number: u32,
+    pub bits: usize,
+    pub kmax: usize,
+    pub blocks: usize,
+    pub places: usize,
+    pub z: usize,
+    pub index: usize,
+    pub sums: usize,
+}
+
+impl From<Result<Plan, Refusal>> for Planned {
+    ghost from_gives = { λ answer r. r ≡ answer_planned answer };
+
+    #[tactic(auto, unfolding(crate::specs::Promises::refusal))]
+    fn from(answer: Result<Plan, Refusal>) -> Planned {
+        match answer {
+            Ok(plan) => Planned {
+                number: 0,
+                bits: plan.bits,
+                kmax: plan.kmax,
+                blocks: plan.blocks,
+                places: plan.places,
+                z: plan.z,
+                index: plan.index,
+                sums: plan.sums,
+            },
+            Err(refusal) => Planned {
+                number: refusal.number(),
+                bits: 0,
+                kmax: 0,
+                blocks: 0,
+                places: 0,
+                z: 0,
+                index: 0,
+                sums: 0,
+            },
+        }
     }
+}
+
+// How a transport block of so many octets is cut, in either edition.
+pub fn plan_block(profile: &[u8], edition: usize, octets: usize) -> Result<Plan, Refusal>
+    ensures { answer_planned result ≡ planned profile.now edition octets }
+{
+    profile::judge(profile)?;
     inner::plan_accepted(profile, edition, octets)
 }

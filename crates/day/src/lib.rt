@@ -1,16 +1,17 @@
 // The command `day`: the engineer's whole day on the sample shelves, with a line for each step.
 #![tactic(auto)]
 
-ghost use Rattle.std.specs.Prelude.{◌≤◌};
+ghost use Rattle.std.specs.Prelude.{◌≤◌, IfSome};
 
 use advice::Least;
 use bits::count::{CodedBits, Terms};
-use bits::number::{DONE, Written};
+use bits::number::Refusal;
 use checking::Checker;
 use console::argv::Words;
 use console::host::Host;
 use console::{argv, files, help, meanings, page, status};
 use hosted::asked::Parameters;
+use hosted::shelves::Shelves;
 use hosted::{calls, least, shelves};
 use shelf::inner::Found;
 use text::octets;
@@ -26,63 +27,48 @@ const OTHER: u16 = 11;
 
 const THIRD: u16 = 3;
 
-// `shelves` is the folder of the two shelves.
-pub fn run(rt: &impl Host, words: Words, shelves: &[u8]) -> i32 {
-    if words.help {
-        return say(rt, words);
-    }
-    if !argv::fits(rt, b"", 0, b"-o\n") {
-        return say(rt, words);
-    }
-    day(rt, shelves)
-}
-
-fn say(rt: &impl Host, words: Words) -> i32 {
-    help::say(
-        rt,
-        words.help,
-        b"usage: kuambyte day [-o FILE]
+const HELP: &[u8] = b"usage: kuambyte day [-o FILE]
 
 Runs the whole day on the sample shelves, private.shelf and public.shelf, and writes a line for each step: looks a profile up, sends
 a block, receives it, flips one bit and receives again, and asks as other tenants for private profiles.
-",
-    )
+";
+
+// `folder` is that of the two shelves.
+pub fn run(rt: &impl Host, words: Words, folder: &[u8]) -> i32 {
+    if words.help || !argv::fits(rt, b"", 0, b"-o\n") {
+        return help::say(rt, words.help, HELP);
+    }
+    let mut store = [0u8; shelves::STORE];
+    match shelves::in_folder(rt, folder, &mut store) {
+        Some(shelves) => day(rt, shelves),
+        None => status::FAILED,
+    }
 }
 
-fn day(rt: &impl Host, folder: &[u8]) -> i32 {
-    let mut store = shelves::room();
-    let found = shelves::in_folder(rt, folder, &mut store);
-    if found.failed {
-        return status::FAILED;
-    }
+fn day(rt: &impl Host, shelves: Shelves) -> i32 {
     let mut page = io::buffer();
-    let end = steps(
-        shelves::private(&store, found),
-        shelves::public(&store, found),
-        &mut page,
-    );
+    let end = steps(shelves, &mut page);
     files::write(rt, octets::first(&page, end))
 }
 
-fn steps<'a>(private: &'a [u8], public: &'a [u8], page: &mut [u8]) -> usize {
+fn steps(shelves: Shelves, page: &mut [u8]) -> usize {
     let message = b"One block of the engineer's day goes out and comes back.";
-    let a = look(b"lookup   ", private, public, TENANT, SHARED, page, 0);
-    let b = exchange(message, private, public, page, a);
-    let c = look(b"others   ", private, public, OTHER, SHARED, page, b);
-    look(b"private  ", private, public, THIRD, OWN, page, c)
+    let a = look(b"lookup   ", shelves, TENANT, SHARED, page, 0);
+    let b = exchange(message, shelves, page, a);
+    let c = look(b"others   ", shelves, OTHER, SHARED, page, b);
+    look(b"private  ", shelves, THIRD, OWN, page, c)
 }
 
 // Who asks, and which record is given.
-fn look<'a>(
+fn look(
     step: &[u8],
-    private: &'a [u8],
-    public: &'a [u8],
+    shelves: Shelves,
     tenant: u16,
     profile: u16,
     page: &mut [u8],
     at: usize,
 ) -> usize {
-    let found = shelf::inner::look(private, public, tenant, profile);
+    let found = shelf::inner::look(shelves.private, shelves.public, tenant, profile);
     let a = page::put(step, page, at);
     let b = page::form(
         b"tenant # asks for profile #",
@@ -93,37 +79,33 @@ fn look<'a>(
     given(found, page, b)
 }
 
-fn given(found: Found, page: &mut [u8], at: usize) -> usize {
-    if found.number != DONE {
-        return refused(found.number, page, at);
-    }
-    if found.own {
-        return page::form(
+fn given(found: Result<Found, Refusal>, page: &mut [u8], at: usize) -> usize {
+    match found {
+        Ok(found) if found.own => page::form(
             b" and is given its own record of # octets\n",
             &[found.size],
             page,
             at,
-        );
+        ),
+        Ok(found) => page::form(
+            b" and is given the public record of # octets\n",
+            &[found.size],
+            page,
+            at,
+        ),
+        Err(refusal) => refused(refusal, page, at),
     }
-    page::form(
-        b" and is given the public record of # octets\n",
-        &[found.size],
-        page,
-        at,
-    )
 }
 
-fn refused(number: u32, page: &mut [u8], at: usize) -> usize {
-    let a = page::form(b": refused #: ", &[number as usize], page, at);
-    let b = meanings::put(number, page, a);
+fn refused(refusal: Refusal, page: &mut [u8], at: usize) -> usize {
+    let a = page::form(b": refused #: ", &[refusal as usize], page, at);
+    let b = meanings::put(refusal, page, a);
     page::put(b"\n", page, b)
 }
 
 // Tenant 7 sends on one layer, two bits to a symbol.
 fn asked_for(octets: usize, g: CodedBits) -> Parameters {
     Parameters {
-        tenant: TENANT,
-        profile: SHARED,
         octets,
         terms: Terms {
             nl: 1,
@@ -132,83 +114,82 @@ fn asked_for(octets: usize, g: CodedBits) -> Parameters {
             edition: 1,
         },
         g,
-        bad: false,
+        ..Parameters::of(TENANT, SHARED)
     }
 }
 
-// Sends the message with the least G that has room, receives it, flips the first bit and receives again.
-fn exchange<'a>(
-    message: &[u8],
-    private: &'a [u8],
-    public: &'a [u8],
+// Sends the message with the least G that has room, receives it, flips the first bit and receives again. Where no G has room, sending says why.
+fn exchange(message: &[u8], shelves: Shelves, page: &mut [u8], at: usize) -> usize {
+    let asked = asked_for(message.len(), CodedBits(0));
+    let least = calls::least(shelves.record(asked), asked).ok();
+    let g = match least {
+        Some(least) => least.bits,
+        None => CodedBits(0),
+    };
+    let asked = Parameters { g, ..asked };
+    let mut bits = files::bits_room();
+    let sent = calls::send(shelves, asked, message, &mut bits);
+    let a = tell_sent(message.len(), least, sent, page, at);
+    let n = sent.unwrap_or(0).min(bits.len());
+    there_and_back(asked, message, shelves, &mut bits[..n], page, a)
+}
+
+fn tell_sent(
+    octets: usize,
+    least: Option<Least>,
+    sent: Result<usize, Refusal>,
     page: &mut [u8],
     at: usize,
-) -> usize {
-    let record = shelf::lookup(private, public, TENANT, SHARED);
-    let least = calls::least(record, asked_for(message.len(), CodedBits(0)));
-    let asked = asked_for(message.len(), least.bits);
-    let mut bits = files::bits_room();
-    let sent = calls::send(private, public, asked, message, &mut bits);
-    let a = tell_sent(message.len(), least, sent, page, at);
-    let n = octets::least(sent.count, bits.len());
-    there_and_back(asked, message, private, public, &mut bits[0..n], page, a)
-}
-
-fn tell_sent(octets: usize, least: Least, sent: Written, page: &mut [u8], at: usize) -> usize
-    requires { least.larger ≤ least.blocks }
+) -> usize
+    requires { IfSome least (λ l. l.larger ≤ l.blocks) }
 {
     let a = page::form(b"send     a block of # octets", &[octets], page, at);
-    if sent.number != DONE {
-        return refused(sent.number, page, a);
-    }
-    let b = page::form(b" goes out as # bits, ", &[sent.count], page, a);
-    let c = least::put_shares(least, page, b);
+    let b = match sent {
+        Ok(count) => page::form(b" goes out as # bits, ", &[count], page, a),
+        Err(refusal) => return refused(refusal, page, a),
+    };
+    let c = match least {
+        Some(least) => least::put_shares(least, page, b),
+        None => b,
+    };
     page::put(b"\n", page, c)
 }
 
-fn there_and_back<'a>(
+fn there_and_back(
     asked: Parameters,
     message: &[u8],
-    private: &'a [u8],
-    public: &'a [u8],
+    shelves: Shelves,
     bits: &mut [u8],
     page: &mut [u8],
     at: usize,
 ) -> usize {
     let a = page::put(b"receive  these bits", page, at);
-    let b = receive(asked, message, private, public, bits, page, a);
+    let b = receive(asked, message, shelves, bits, page, a);
     flip(bits);
     let c = page::put(b"flip     with the first bit flipped", page, b);
-    receive(asked, message, private, public, bits, page, c)
+    receive(asked, message, shelves, bits, page, c)
 }
 
 fn flip(bits: &mut [u8]) {
-    if bits.len() > 0 {
-        bits[0] = bits[0] ^ 1;
+    if let Some(bit) = bits.first_mut() {
+        *bit ^= 1;
     }
 }
 
-fn receive<'a>(
+fn receive(
     asked: Parameters,
     message: &[u8],
-    private: &'a [u8],
-    public: &'a [u8],
+    shelves: Shelves,
     bits: &[u8],
     page: &mut [u8],
     at: usize,
 ) -> usize {
     let mut block = files::block_room();
-    let received = calls::receive(private, public, asked, bits, Checker::Quick, &mut block);
-    let same = octets::same(octets::first(&block, received.count), message);
-    tell_received(received.number, same, page, at)
-}
-
-fn tell_received(number: u32, same: bool, page: &mut [u8], at: usize) -> usize {
-    if number != DONE {
-        return refused(number, page, at);
+    match calls::receive(shelves, asked, bits, Checker::Quick, &mut block) {
+        Ok(count) if octets::first(&block, count) == message => {
+            page::put(b" come back as the same block\n", page, at)
+        }
+        Ok(_) => page::put(b" come back as ANOTHER BLOCK\n", page, at),
+        Err(refusal) => refused(refusal, page, at),
     }
-    if same {
-        return page::put(b" come back as the same block\n", page, at);
-    }
-    page::put(b" come back as ANOTHER BLOCK\n", page, at)
 }

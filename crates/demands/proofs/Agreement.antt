@@ -18,7 +18,7 @@ use Rattle.masked.proofs.Agreement.{sum_under_agree, append-agree, test-agree}
 use Rattle.profile.specs.Promises.{judged}
 use Rattle.profile.proofs.Agreement.{judge-agree}
 use Rattle.cutting.specs.Promises.{planned}
-use Rattle.cutting.specs.declared.Plan.{Plan}
+use Rattle.cutting.specs.declared.Planned.{Planned}
 use Rattle.cutting.proofs.Agreement.{planned-agree}
 use Rattle.parity.specs.Promises.{BlockCoded}
 use Rattle.parity.proofs.Agreement.{block_coded_agree}
@@ -30,7 +30,7 @@ use Rattle.matching.proofs.Agreement.{rate_match_agree}
 use Rattle.control.specs.Promises.{WordCoded, StreamsMatched, WordSent, StreamsFound}
 use Rattle.control.proofs.Agreement.{wrote_agree}
 use Rattle.nearest.specs.Promises.{WordFound}
-use Rattle.nearest.specs.declared.Closest.{Closest}
+use Rattle.nearest.specs.declared.Found.{Found}
 use Rattle.nearest.proofs.Agreement.{found-agree}
 use Rattle.coding.specs.Promises.{Sent, Received}
 use Rattle.coding.proofs.Agreement.{send-agree, receive-agree}
@@ -47,7 +47,7 @@ use Rattle.rules.specs.declared.Broken.{Broken}
 use Rattle.rules.specs.declared.Wrong.{Wrong}
 use Rattle.rules.proofs.Agreement.{shelf_rule_agree, record_rule_agree}
 use Rattle.advice.specs.Promises.{LeastRoom}
-use Rattle.advice.specs.declared.Least.{Least}
+use Rattle.advice.specs.declared.Advised.{Advised}
 use Rattle.advice.proofs.Agreement.{least-agree}
 
 -- ---- checksum::of_bits, checksum::of_octets
@@ -80,7 +80,7 @@ test a b = test-agree a b
 pub judge : (R : List ℕ) {r r' : ℕ} → r ≡ judged R → r' ≡ judged R → r ≡ r'
 judge R a b = judge-agree R a b
 
-pub plan-block : (R : List ℕ) (ed octets : ℕ) {r r' : Plan} → r ≡ planned R ed octets → r' ≡ planned R ed octets → r ≡ r'
+pub plan-block : (R : List ℕ) (ed octets : ℕ) {r r' : Planned} → r ≡ planned R ed octets → r' ≡ planned R ed octets → r ≡ r'
 plan-block R ed octets a b = planned-agree R ed octets a b
 
 -- ---- parity::code_block, checking::check_word, checking::row_sums
@@ -127,12 +127,12 @@ streams-of D bits a b = wrote_agree a b
 
 -- ---- nearest::nearest_word
 
-pub nearest-word : (D : ℕ) (heard : List ℕ) {out : List ℕ} {r r' : Closest} {o o' : List ℕ} → WordFound D heard out r o → WordFound D heard out r' o' → (r ≡ r') × (o ≡ o')
+pub nearest-word : (D : ℕ) (heard : List ℕ) {out : List ℕ} {r r' : Found} {o o' : List ℕ} → WordFound D heard out r o → WordFound D heard out r' o' → (r ≡ r') × (o ≡ o')
 nearest-word D heard a b = found-agree a b
 
 -- ---- advice::least_bits
 
-pub least-bits : {R : List ℕ} {octets : ℕ} {terms : Terms} {r r' : Least} → LeastRoom R octets terms r → LeastRoom R octets terms r' → r ≡ r'
+pub least-bits : {R : List ℕ} {octets : ℕ} {terms : Terms} {r r' : Advised} → LeastRoom R octets terms r → LeastRoom R octets terms r' → r ≡ r'
 least-bits a b = least-agree a b
 
 -- ---- shelf::lookup_number, shelf::lookup (a stretch is its octets and its place), shelf::hosted_send, shelf::hosted_receive,

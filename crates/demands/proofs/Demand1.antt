@@ -29,7 +29,7 @@ use Rattle.profile.proofs.Shape.{columns_is}
 use Rattle.cutting.specs.Plan.{block_bits}
 use Rattle.cutting.specs.Promises.{plan_conditions, plan_number, refusal, planned}
 use Rattle.cutting.specs.Transport.{transport}
-use Rattle.cutting.specs.declared.Plan.{Plan}
+use Rattle.cutting.specs.declared.Planned.{Planned}
 use Rattle.cutting.proofs.Plans.{plan-number}
 use Rattle.parity.specs.Coded.{coded}
 use Rattle.parity.specs.Promises.{table_for, code_conditions, code_number, BlockCoded}
@@ -50,7 +50,7 @@ use Rattle.control.proofs.Sending.{length-sent}
 use Rattle.control.proofs.Backwards.{found-length}
 use Rattle.nearest.specs.Nearest.{away, nearest}
 use Rattle.nearest.specs.Promises.{nearest_word_conditions, nearest_word_number, WordFound}
-use Rattle.nearest.specs.declared.Closest.{Closest}
+use Rattle.nearest.specs.declared.Found.{Found}
 use Rattle.coding.specs.Joining.{radio_bits}
 use Rattle.coding.specs.Receiving.{received_block}
 use Rattle.coding.specs.Promises.{send_conditions, send_number, Sent, receive_conditions, receive_number, Received}
@@ -62,7 +62,7 @@ use Rattle.shelf.specs.Promises.{LookedUp, HostedSent, HostedReceived, HostedChe
 use Rattle.keeping.specs.Entries.{shelf_put, shelf_left}
 use Rattle.keeping.specs.Promises.{put_conditions, put_number, RecordPut, remove_conditions, remove_number, RecordRemoved}
 use Rattle.advice.specs.Promises.{least_conditions, least_number, LeastRoom}
-use Rattle.advice.specs.declared.Least.{Least}
+use Rattle.advice.specs.declared.Advised.{Advised}
 use Rattle.demands.specs.Numbers.{NoneHolds, Answers}
 use Rattle.demands.specs.Outputs.{Confined, Alike}
 use Rattle.demands.proofs.Order.{answers}
@@ -96,7 +96,7 @@ pub judge-number : (R : List ℕ) {r : ℕ} → r ≡ judged R → Answers r (ju
 unfolding judged Refusals
 judge-number R a = answers (judge_conditions R) tt a
 
-pub plan_block_number : (R : List ℕ) (ed octets : ℕ) {r : Plan} → r ≡ planned R ed octets → Answers r.number (plan_conditions R ed octets)
+pub plan_block_number : (R : List ℕ) (ed octets : ℕ) {r : Planned} → r ≡ planned R ed octets → Answers r.number (plan_conditions R ed octets)
 unfolding plan_number Refusals
 plan_block_number R ed octets {r} a = answers (plan_conditions R ed octets) tt (plan-number R ed octets r a)
 
@@ -104,7 +104,7 @@ pub check_word_number : {R : List ℕ} {z : ℕ} {word : List ℕ} {r : Verdict}
 unfolding check_number Refusals
 check_word_number {R} {z} {word} a = answers (check_conditions R z word) tt a.number
 
-pub least_bits_number : {R : List ℕ} {octets : ℕ} {terms : Terms} {r : Least} → LeastRoom R octets terms r → Answers r.number (least_conditions R octets terms)
+pub least_bits_number : {R : List ℕ} {octets : ℕ} {terms : Terms} {r : Advised} → LeastRoom R octets terms r → Answers r.number (least_conditions R octets terms)
 unfolding least_number Refusals
 least_bits_number {R} {octets} {terms} a = answers (least_conditions R octets terms) tt a.number
 
@@ -150,17 +150,17 @@ sum_under_refused {w} {m} {bits} a n = a.value ∙ when_refused (bits_number w b
 pub test-refused : {w m : ℕ} {word : List ℕ} {r : Tested} → WordTested w m word r → (r.number ≡ 0 → ⊥) → r.holds ≡ false
 test-refused {w} {m} {word} a n = a.holds ∙ when_refused (bits_number w word) _ false (λ z. n (a.number ∙ z))
 
-pub plan_block_refused : (R : List ℕ) (ed octets : ℕ) {r : Plan} → r ≡ planned R ed octets → (r.number ≡ 0 → ⊥)
+pub plan_block_refused : (R : List ℕ) (ed octets : ℕ) {r : Planned} → r ≡ planned R ed octets → (r.number ≡ 0 → ⊥)
     → (r.bits ≡ 0) × (r.kmax ≡ 0) × (r.blocks ≡ 0) × (r.places ≡ 0) × (r.z ≡ 0) × (r.index ≡ 0)
 unfolding planned refusal
 plan_block_refused R ed octets {r} a n =
     let e : r ≡ refusal (plan_number R ed octets) = a ∙ when_refused (plan_number R ed octets) _ _ (λ z. n (plan-number R ed octets r a ∙ z)) in
-    (ap (λ (p : Plan). p.bits) e, ap (λ (p : Plan). p.kmax) e, ap (λ (p : Plan). p.blocks) e, ap (λ (p : Plan). p.places) e, ap (λ (p : Plan). p.z) e, ap (λ (p : Plan). p.index) e)
+    (ap (λ (p : Planned). p.bits) e, ap (λ (p : Planned). p.kmax) e, ap (λ (p : Planned). p.blocks) e, ap (λ (p : Planned). p.places) e, ap (λ (p : Planned). p.z) e, ap (λ (p : Planned). p.index) e)
 
 pub check_word_refused : {R : List ℕ} {z : ℕ} {word : List ℕ} {r : Verdict} → WordChecked R z word r → (r.number ≡ 0 → ⊥) → r.checks ≡ false
 check_word_refused {R} {z} {word} a n = a.checks ∙ when_refused (check_number R z word) _ false (λ e. n (a.number ∙ e))
 
-pub least_bits_refused : {R : List ℕ} {octets : ℕ} {terms : Terms} {r : Least} → LeastRoom R octets terms r → (r.number ≡ 0 → ⊥)
+pub least_bits_refused : {R : List ℕ} {octets : ℕ} {terms : Terms} {r : Advised} → LeastRoom R octets terms r → (r.number ≡ 0 → ⊥)
     → (r.bits.0 ≡ 0) × (r.blocks ≡ 0) × (r.larger ≡ 0) × (r.first.0 ≡ 0) × (r.last.0 ≡ 0)
 least_bits_refused {R} {octets} {terms} a n =
     let number = least_number R octets terms in
@@ -437,7 +437,7 @@ module _ (D : ℕ) (bits : List ℕ) where
       outputs.alike streams-of-fits q (wrote_writes (streams_of_number D bits) _ (streams_as D bits) a) (wrote_writes (streams_of_number D bits) _ (streams_as D bits) b)
 
 -- nearest::nearest_word: of its answer the number and the count are those of a call that writes, and the differences are said beside
-abbrev pub written_of : Closest → Written
+abbrev pub written_of : Found → Written
 written_of r = record { number = r.number; count = r.count }
 
 module _ (D : ℕ) (heard : List ℕ) where
@@ -453,22 +453,22 @@ module _ (D : ℕ) (heard : List ℕ) where
         room = λ room q. let h = (nearest-word-answers room (sym q)).only_done refl in ltb-false room D h.1.1.0;
       }
 
-  found-writes : {out : List ℕ} {r : Closest} {o : List ℕ} → WordFound D heard out r o
+  found-writes : {out : List ℕ} {r : Found} {o : List ℕ} → WordFound D heard out r o
       → outputs.Writes (nearest_word_number D heard) D (digits D (nearest D heard)) out (written_of r) o
   found-writes a = record { number = a.number; count = a.count; output = a.output }
 
-  pub nearest_word-number : {out : List ℕ} {r : Closest} {o : List ℕ} → WordFound D heard out r o
+  pub nearest_word-number : {out : List ℕ} {r : Found} {o : List ℕ} → WordFound D heard out r o
       → Answers r.number (nearest_word_conditions D heard (length out))
   nearest_word-number {out} a = nearest-word-answers (length out) a.number
 
-  pub nearest_word_refused : {out : List ℕ} {r : Closest} {o : List ℕ} → WordFound D heard out r o → (r.number ≡ 0 → ⊥) → r.differences ≡ 0
+  pub nearest_word_refused : {out : List ℕ} {r : Found} {o : List ℕ} → WordFound D heard out r o → (r.number ≡ 0 → ⊥) → r.differences ≡ 0
   nearest_word_refused {out} a n =
       a.differences ∙ when_refused (nearest_word_number D heard (length out)) (away D heard (nearest D heard)) 0 (λ z. n (a.number ∙ z))
 
-  pub nearest_word_confined : {out : List ℕ} {r : Closest} {o : List ℕ} → WordFound D heard out r o → Confined out (written_of r) o
+  pub nearest_word_confined : {out : List ℕ} {r : Found} {o : List ℕ} → WordFound D heard out r o → Confined out (written_of r) o
   nearest_word_confined a = outputs.confined nearest-word-fits (found-writes a)
 
-  pub nearest_word_alike : {out : List ℕ} {r : Closest} {o other : List ℕ} {s : Closest} {u : List ℕ} → length out ≡ length other
+  pub nearest_word_alike : {out : List ℕ} {r : Found} {o other : List ℕ} {s : Found} {u : List ℕ} → length out ≡ length other
       → WordFound D heard out r o → WordFound D heard other s u → Alike (written_of r) o (written_of s) u × (r.differences ≡ s.differences)
   nearest_word_alike q a b = (
     outputs.alike nearest-word-fits q (found-writes a) (found-writes b),

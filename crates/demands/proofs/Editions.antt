@@ -24,7 +24,7 @@ use Rattle.cutting.specs.Plan.{block_bits, kmax, other_edition, summed, sum_bits
 use Rattle.cutting.specs.Promises.{plan_number, planned}
 use Rattle.cutting.specs.Transport.{transport}
 use Rattle.cutting.specs.Cutting.{own_start, own, carried, systematic}
-use Rattle.cutting.specs.declared.Plan.{Plan}
+use Rattle.cutting.specs.declared.Planned.{Planned}
 use Rattle.cutting.proofs.Plans.{plan-number}
 use Rattle.cutting.proofs.Summed.{sum-none, sum-single, without_sum}
 use Rattle.parity.specs.Coded.{coded}
@@ -168,7 +168,7 @@ unfolding other_edition
 other-edition ed one two = rw (ne_eqb ed 1 one, ne_eqb ed 2 two)
 
 module _ (R : List ℕ) (taken : judged R ≡ 0) where
-  pub plan_nineteen : (ed octets : ℕ) (p : Plan) → p ≡ planned R ed octets → (ed ≡ 1 → ⊥) → (ed ≡ 2 → ⊥) → p.number ≡ 19
+  pub plan_nineteen : (ed octets : ℕ) (p : Planned) → p ≡ planned R ed octets → (ed ≡ 1 → ⊥) → (ed ≡ 2 → ⊥) → p.number ≡ 19
   unfolding plan_number
   plan_nineteen ed octets p e one two = plan-number R ed octets p e ∙ judged-passed R _ taken ∙ applies 19 _ (other-edition ed one two)
 
@@ -184,7 +184,7 @@ module _ (R : List ℕ) (taken : judged R ≡ 0) where
 
   -- ---- "9 also in edition 2 where B > Kmax and Kmax ≤ 24"
 
-  pub plan-full : (octets : ℕ) (p : Plan) → p ≡ planned R 2 octets → 1 ≤ octets → octets ≤ 2048 → kmax R < block_bits octets → kmax R ≤ 24 → p.number ≡ 9
+  pub plan-full : (octets : ℕ) (p : Planned) → p ≡ planned R 2 octets → 1 ≤ octets → octets ≤ 2048 → kmax R < block_bits octets → kmax R ≤ 24 → p.number ≡ 9
   unfolding plan_number other_edition too_many_blocks summed
   plan-full octets p e some most over full =
       plan-number R 2 octets p e ∙ judged-passed R _ taken ∙ passes 19 _ refl

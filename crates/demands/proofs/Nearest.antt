@@ -23,12 +23,12 @@ use Rattle.control.proofs.Apart.{words-apart}
 use Rattle.control.proofs.Registers.{length-streams, streams-bits}
 use Rattle.nearest.specs.Nearest.{unlike, differences, away, nearest}
 use Rattle.nearest.specs.Promises.{nearest_word_number, WordFound}
-use Rattle.nearest.specs.declared.Closest.{Closest}
+use Rattle.nearest.specs.declared.Found.{Found}
 use Rattle.nearest.proofs.Nearest.{nearest_lt, none_fewer, smallest_of_equals, nearest-is, differences-none, differences-same}
 use Rattle.demands.specs.Worked.{three_streams, nearest_of, nearest_words, computed, due}
 use Rattle.demands.proofs.Control.{coded-streams}
 
-module _ (D : ℕ) (heard : List ℕ) {out : List ℕ} {r : Closest} {o : List ℕ} (found : WordFound D heard out r o) (z : r.number ≡ 0) where
+module _ (D : ℕ) (heard : List ℕ) {out : List ℕ} {r : Found} {o : List ℕ} (found : WordFound D heard out r o) (z : r.number ≡ 0) where
   done : nearest_word_number D heard (length out) ≡ 0
   done = sym found.number ∙ z
 
@@ -83,7 +83,7 @@ module _ (c : List ℕ) (w : Word c) where
         bits_not_over (streams c) (streams-bits c),
       )
 
-  unharmed : {out : List ℕ} {r : Closest} {o : List ℕ} → length c ≤ length out → WordFound (length c) (streams c) out r o
+  unharmed : {out : List ℕ} {r : Found} {o : List ℕ} → length c ≤ length out → WordFound (length c) (streams c) out r o
       → (r.number ≡ 0) × (r.differences ≡ 0) × (take r.count o ≡ c)
   unharmed {out} {r} {o} room found =
       let z : r.number ≡ 0 = found.number ∙ heard-number (length out) room in
@@ -96,7 +96,7 @@ module _ (c : List ℕ) (w : Word c) where
       differences-same (streams word) (streams c) long (differences_attained (length c) (streams c) found z ∙ no) in
       (z, no, words-apart word c bits.0 w.bits (omega (arith, bits.1, w.six)) (sym bits.1) same)
 
-pub unharmed_word : (c : List ℕ) {mid : List ℕ} {q : Written} {m out : List ℕ} {r : Closest} {o : List ℕ} → WordCoded c mid q m → q.number ≡ 0
+pub unharmed_word : (c : List ℕ) {mid : List ℕ} {q : Written} {m out : List ℕ} {r : Found} {o : List ℕ} → WordCoded c mid q m → q.number ≡ 0
     → length c ≤ length out → WordFound (length c) (take q.count m) out r o → (r.number ≡ 0) × (r.differences ≡ 0) × (take r.count o ≡ c)
 unharmed_word c coded z room found = let word = coded-streams c coded z in unharmed c word.0 room (rw word.1 at found)
 

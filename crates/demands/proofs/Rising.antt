@@ -14,14 +14,14 @@ use Rattle.masked.specs.Promises.{SumUnder, append_conditions, Appended, WordTes
 use Rattle.masked.specs.declared.Tested.{Tested}
 use Rattle.profile.specs.Promises.{judge_conditions, judged}
 use Rattle.cutting.specs.Promises.{plan_conditions, planned}
-use Rattle.cutting.specs.declared.Plan.{Plan}
+use Rattle.cutting.specs.declared.Planned.{Planned}
 use Rattle.parity.specs.Promises.{code_conditions, BlockCoded}
 use Rattle.checking.specs.Promises.{check_conditions, WordChecked, sums_conditions, RowsSummed}
 use Rattle.checking.specs.declared.Verdict.{Verdict}
 use Rattle.matching.specs.Promises.{match_conditions, RateMatched}
 use Rattle.control.specs.Promises.{code_word_conditions, WordCoded, match_streams_conditions, StreamsMatched, send_word_conditions, WordSent, streams_of_conditions, StreamsFound}
 use Rattle.nearest.specs.Promises.{nearest_word_conditions, WordFound}
-use Rattle.nearest.specs.declared.Closest.{Closest}
+use Rattle.nearest.specs.declared.Found.{Found}
 use Rattle.coding.specs.Promises.{send_conditions, Sent, receive_conditions, Received}
 use Rattle.shelf.specs.Lookup.{lookup_conditions, lookup_number, lookup_record}
 use Rattle.shelf.specs.Promises.{HostedSent, HostedReceived, HostedChecked}
@@ -65,7 +65,7 @@ pub judge-lowest : (R : List ℕ) {r : ℕ} → r ≡ judged R
 unfolding rising rank
 judge-lowest R a = lowest (judge_conditions R) refl (judge-number R a)
 
-pub plan_block_lowest : (R : List ℕ) (ed octets : ℕ) {r : Plan} → r ≡ planned R ed octets
+pub plan_block_lowest : (R : List ℕ) (ed octets : ℕ) {r : Planned} → r ≡ planned R ed octets
     → Lowest r.number (plan_conditions R ed octets)
 unfolding rising rank
 plan_block_lowest R ed octets a = lowest (plan_conditions R ed octets) refl (plan_block_number R ed octets a)
@@ -150,7 +150,7 @@ pub streams_of_lowest : (D : ℕ) (bits : List ℕ) {out : List ℕ} {r : Writte
 unfolding rising rank
 streams_of_lowest D bits {out} a = lowest (streams_of_conditions D bits (length out)) refl (streams_of-number D bits a)
 
-pub nearest_word_lowest : (D : ℕ) (heard : List ℕ) {out : List ℕ} {r : Closest} {o : List ℕ} → WordFound D heard out r o
+pub nearest_word_lowest : (D : ℕ) (heard : List ℕ) {out : List ℕ} {r : Found} {o : List ℕ} → WordFound D heard out r o
     → Lowest r.number (nearest_word_conditions D heard (length out))
 unfolding rising rank
 nearest_word_lowest D heard {out} a = lowest (nearest_word_conditions D heard (length out)) refl (nearest_word-number D heard a)

@@ -6,56 +6,7 @@ use console::{argv, files, help, page, status};
 use std::rt::Env;
 use text::octets;
 
-pub fn run(rt: &(impl Print + Errors)) -> i32 {
-    files::ended(rt, rt.write_all(overview()))
-}
-
-// Which version this is; include/kuambyte.h has the same.
-pub fn version(rt: &impl Host, words: Words) -> i32 {
-    if words.help {
-        return say_version(rt, words);
-    }
-    if !argv::fits(rt, b"", 0, b"") {
-        return say_version(rt, words);
-    }
-    files::ended(rt, rt.write_all(b"kuambyte 0.1.0\n"))
-}
-
-fn say_version(rt: &impl Host, words: Words) -> i32 {
-    help::say(
-        rt,
-        words.help,
-        b"usage: kuambyte --version
-
-Writes the name of the program and its version.
-",
-    )
-}
-
-pub fn too_many(rt: &impl Host) -> i32 {
-    rt.say(b"kuambyte: help takes the name of one command\n");
-    help::say(rt, false, b"usage: kuambyte help [COMMAND]\n")
-}
-
-// No word was given. Nothing goes to standard output, so that what reads a result meets no other text.
-pub fn missing(rt: &impl Errors) -> i32 {
-    rt.say(overview());
-    status::WRONG_WORDS
-}
-
-pub fn unknown(rt: &(impl Env + Errors), place: usize) -> i32 {
-    let mut word = io::buffer();
-    let n = argv::read(rt, place, &mut word);
-    let mut line = io::buffer();
-    let a = page::put(b"kuambyte: unknown word '", &mut line, 0);
-    let b = page::put(octets::first(&word[..n], 100), &mut line, a);
-    let c = page::put(b"'; kuambyte help lists the commands\n", &mut line, b);
-    rt.say(octets::first(&line, c));
-    status::WRONG_WORDS
-}
-
-fn overview() -> &'static [u8] {
-    b"kuambyte asks the proved coding library and writes what it answers.
+const OVERVIEW: &[u8] = b"kuambyte asks the proved coding library and writes what it answers.
 
 Coding, for a tenant and a profile number:
   kuambyte lookup PRIVATE PUBLIC TENANT PROFILE > record
@@ -88,5 +39,43 @@ PRIVATE and PUBLIC are shelf files. Words in capitals may also be given by name 
 -o FILE writes it to a file, which is never half written.
 A refusal is one line on standard error, and its number is the exit status; 64 is for wrong words, 65 for a text that is no shelf, and 74 for
 a file that cannot be read or a write that failed.
-"
+";
+
+pub fn run(rt: &(impl Print + Errors)) -> i32 {
+    files::ended(rt, rt.write_all(OVERVIEW))
+}
+
+const VERSION_HELP: &[u8] = b"usage: kuambyte --version
+
+Writes the name of the program and its version.
+";
+
+// Which version this is; include/kuambyte.h has the same.
+pub fn version(rt: &impl Host, words: Words) -> i32 {
+    if words.help || !argv::fits(rt, b"", 0, b"") {
+        return help::say(rt, words.help, VERSION_HELP);
+    }
+    files::ended(rt, rt.write_all(b"kuambyte 0.1.0\n"))
+}
+
+pub fn too_many(rt: &impl Host) -> i32 {
+    rt.say(b"kuambyte: help takes the name of one command\n");
+    help::say(rt, false, b"usage: kuambyte help [COMMAND]\n")
+}
+
+// No word was given. Nothing goes to standard output, so that what reads a result meets no other text.
+pub fn missing(rt: &impl Errors) -> i32 {
+    rt.say(OVERVIEW);
+    status::WRONG_WORDS
+}
+
+pub fn unknown(rt: &(impl Env + Errors), place: usize) -> i32 {
+    let mut word = io::buffer();
+    let n = argv::read(rt, place, &mut word);
+    let mut line = io::buffer();
+    let a = page::put(b"kuambyte: unknown word '", &mut line, 0);
+    let b = page::put(octets::first(&word[..n], 100), &mut line, a);
+    let c = page::put(b"'; kuambyte help lists the commands\n", &mut line, b);
+    rt.say(octets::first(&line, c));
+    status::WRONG_WORDS
 }

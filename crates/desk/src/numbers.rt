@@ -4,25 +4,16 @@ use console::host::Host;
 use console::{argv, files, help, meanings, page};
 use text::octets;
 
-pub fn run(rt: &impl Host, words: Words) -> i32 {
-    if words.help {
-        return say(rt, words);
-    }
-    if !argv::fits(rt, b"", 0, b"-o\n") {
-        return say(rt, words);
-    }
-    write(rt)
-}
-
-fn say(rt: &impl Host, words: Words) -> i32 {
-    help::say(
-        rt,
-        words.help,
-        b"usage: kuambyte numbers [-o FILE]
+const HELP: &[u8] = b"usage: kuambyte numbers [-o FILE]
 
 Writes the table of the numbers that are answered, and what each means.
-",
-    )
+";
+
+pub fn run(rt: &impl Host, words: Words) -> i32 {
+    if words.help || !argv::fits(rt, b"", 0, b"-o\n") {
+        return help::say(rt, words.help, HELP);
+    }
+    write(rt)
 }
 
 fn write(rt: &impl Host) -> i32 {
@@ -46,10 +37,8 @@ status. Other statuses: 64 wrong words, 65 a text that is no shelf, 74 a file th
 
 fn rows(page: &mut [u8], from: usize) -> usize {
     let mut at = from;
-    let mut number = 0;
-    while number <= meanings::HIGHEST {
+    for number in 0..=meanings::HIGHEST {
         at = row(number, page, at);
-        number += 1;
     }
     at
 }

@@ -1,9 +1,9 @@
 // The command `plan`: how a block is cut, as a table.
 ghost use Rattle.std.specs.Prelude.{◌≡◌};
-ghost use Rattle.cutting.specs.Promises.{planned};
+ghost use Rattle.cutting.specs.Promises.{done_plan, planned};
 ghost use Rattle.desk.specs.Parts.{PartOf};
 
-use bits::number::{DONE, NO_ROOM};
+use bits::number::Refusal;
 use console::argv::Words;
 use console::host::Host;
 use console::{argv, files, help, page, status};
@@ -13,23 +13,9 @@ use hosted::{asked, calls, least, refusal};
 use text::octets;
 
 // The names of the words, in their order.
-const NAMES: [u8; 35] = *b"--record\n--octets\n--layers\n--order\n";
+const NAMES: &[u8] = b"--record\n--octets\n--layers\n--order\n";
 
-pub fn run(rt: &impl Host, words: Words) -> i32 {
-    if words.help {
-        return say(rt, words);
-    }
-    if !argv::fits(rt, &NAMES, 2, b"--edition\n-o\n") {
-        return say(rt, words);
-    }
-    read(rt, words, asked::for_plan(rt, &NAMES))
-}
-
-fn say(rt: &impl Host, words: Words) -> i32 {
-    help::say(
-        rt,
-        words.help,
-        b"usage: kuambyte plan RECORD OCTETS [LAYERS [ORDER]] [--edition N] [-o FILE]
+const HELP: &[u8] = b"usage: kuambyte plan RECORD OCTETS [LAYERS [ORDER]] [--edition N] [-o FILE]
 
 Writes how a transport block of OCTETS octets is cut: B, C, z and K, each code block's own bits, filler and N, the least G with
 which every code block has room for all its coded bits, and the blocks' shares of that G; where code blocks carry a checksum
@@ -43,46 +29,56 @@ each, also its bits, and with a profile of Type 2 the places of a code block fro
   -o FILE       write to this file, and not to standard output; it is never half written
 
 Words may also be given by name, in any order: --record RECORD --octets OCTETS --layers LAYERS --order ORDER.
-",
-    )
+";
+
+pub fn run(rt: &impl Host, words: Words) -> i32 {
+    match asked(rt, words) {
+        Some(asked) => read(rt, asked),
+        None => help::say(rt, words.help, HELP),
+    }
 }
 
-fn read(rt: &impl Host, words: Words, asked: Parameters) -> i32 {
-    if asked.bad {
-        return say(rt, words);
+// What the words ask for, unless they ask for help or do not fit.
+fn asked(rt: &impl Host, words: Words) -> Option<Parameters> {
+    if words.help || !argv::fits(rt, NAMES, 2, b"--edition\n-o\n") {
+        return None;
     }
+    asked::for_plan(rt, NAMES)
+}
+
+fn read(rt: &impl Host, asked: Parameters) -> i32 {
     let mut record = io::large_buffer();
-    let file = files::named(rt, &NAMES, b"--record", &mut record);
-    if file.failed {
-        return status::FAILED;
+    match files::named(rt, NAMES, b"--record", &mut record) {
+        Some(count) => answer(rt, octets::first(&record, count), asked),
+        None => status::FAILED,
     }
-    answer(rt, octets::first(&record, file.count), asked)
 }
 
-// The numbers of the least G go first: 8 stands before 9. Where no G has room, the cutting is shown all the same.
+// The refusals of the least G go first: 8 stands before 9. Where no G has room, the cutting is shown all the same.
 fn answer(rt: &impl Host, record: &[u8], asked: Parameters) -> i32 {
-    let number = calls::least(record, asked).number;
-    if is_refused(number) {
-        return refusal::write(rt, number, record, asked);
+    match calls::least(record, asked) {
+        Ok(_) | Err(Refusal::NoRoom) => answer_plan(rt, record, asked),
+        Err(refusal) => refusal::write(rt, refusal, record, asked),
     }
-    let plan = cutting::plan_block(record, asked.terms.edition, asked.octets);
-    if plan.number != DONE {
-        return refusal::write(rt, plan.number, record, asked);
+}
+
+fn answer_plan(rt: &impl Host, record: &[u8], asked: Parameters) -> i32 {
+    match cutting::plan_block(record, asked.terms.edition, asked.octets) {
+        Ok(plan) => write(rt, record, plan, asked),
+        Err(refusal) => refusal::write(rt, refusal, record, asked),
     }
+}
+
+fn write(rt: &impl Host, record: &[u8], plan: Plan, asked: Parameters) -> i32
+    requires { done_plan plan ≡ planned record.now asked.terms.edition asked.octets }
+{
     let mut page = io::large_buffer();
     let n = put(record, plan, asked, &mut page);
     files::write(rt, octets::first(&page, n))
 }
 
-fn is_refused(number: u32) -> bool {
-    if number == DONE {
-        return false;
-    }
-    number != NO_ROOM
-}
-
 fn put(profile: &[u8], plan: Plan, asked: Parameters, page: &mut [u8]) -> usize
-    requires { (plan.number ≡ 0) × (plan ≡ planned profile.now asked.terms.edition asked.octets) }
+    requires { done_plan plan ≡ planned profile.now asked.terms.edition asked.octets }
 {
     let a = head(plan, page);
     let b = rows(profile, plan, asked, page, a);
@@ -110,14 +106,12 @@ fn head(plan: Plan, page: &mut [u8]) -> usize {
 }
 
 fn rows(profile: &[u8], plan: Plan, asked: Parameters, page: &mut [u8], from: usize) -> usize
-    requires { (plan.number ≡ 0) × (plan ≡ planned profile.now asked.terms.edition asked.octets) }
+    requires { done_plan plan ≡ planned profile.now asked.terms.edition asked.octets }
 {
     let mut at = from;
-    let mut r = 0;
-    while r < plan.blocks {
+    for r in 0..plan.blocks {
         let part = part_of(profile, plan, asked, r);
         at = row(r + 1, part, page, at);
-        r += 1;
     }
     at
 }
@@ -135,7 +129,7 @@ pub struct Part {
 
 // Block r's part, counted from 0.
 fn part_of(profile: &[u8], plan: Plan, asked: Parameters, r: usize) -> Part
-    requires { (plan.number ≡ 0) × (plan ≡ planned profile.now asked.terms.edition asked.octets) }
+    requires { done_plan plan ≡ planned profile.now asked.terms.edition asked.octets }
     ensures { PartOf profile.now asked.terms.edition asked.octets r result }
 {
     let own = cutting::inner::own_bits(plan.bits, plan.blocks, r);
@@ -169,7 +163,7 @@ fn put_sum(sums: usize, page: &mut [u8], at: usize) -> usize {
 
 // From where each redundancy version is sent. Type 1 has only the first.
 fn starts(profile: &[u8], plan: Plan, asked: Parameters, page: &mut [u8], at: usize) -> usize
-    requires { (plan.number ≡ 0) × (plan ≡ planned profile.now asked.terms.edition asked.octets) }
+    requires { done_plan plan ≡ planned profile.now asked.terms.edition asked.octets }
 {
     if profile::inner::kind(profile) == 1 {
         return at;

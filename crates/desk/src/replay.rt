@@ -3,21 +3,7 @@ use console::argv::Words;
 use console::host::Host;
 use console::{argv, help};
 
-pub fn run(rt: &impl Host, words: Words) -> i32 {
-    if words.help {
-        return say(rt, words);
-    }
-    if !argv::fits(rt, b"", 0, b"") {
-        return say(rt, words);
-    }
-    stream::replay(rt)
-}
-
-fn say(rt: &impl Host, words: Words) -> i32 {
-    help::say(
-        rt,
-        words.help,
-        b"usage: kuambyte replay < requests > answers
+const HELP: &[u8] = b"usage: kuambyte replay < requests > answers
 
 Reads requests, one to a line, and writes an answer to each. Requests, and what is answered behind the number:
 
@@ -53,6 +39,11 @@ send, recv, hsend, hrecv and rate may end in rv=N, the redundancy version, and r
 plan, send, recv, hsend and hrecv may end in ed=N, the edition: 1 where nothing is said.
 
 docs/REQUESTS.md describes requests, their words and the answers.
-",
-    )
+";
+
+pub fn run(rt: &impl Host, words: Words) -> i32 {
+    if words.help || !argv::fits(rt, b"", 0, b"") {
+        return help::say(rt, words.help, HELP);
+    }
+    stream::replay(rt)
 }

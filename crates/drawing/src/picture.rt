@@ -159,27 +159,21 @@ fn put_lines(shape: Shape, scale: Scale, page: &mut [u8], at: usize) -> usize {
 }
 
 fn put_uprights(shape: Shape, scale: Scale, page: &mut [u8], at: usize) -> usize {
-    let columns = shape.columns();
     let high = groups(shape.rows(), shape, scale);
     let mut end = at;
-    let mut n = 0;
-    while n <= columns {
+    for n in 0..=shape.columns() {
         let from = across(n, shape, scale);
         end = page::form(b"M# #v#", &[from, scale.top, high], page, end);
-        n += 1;
     }
     end
 }
 
 fn put_levels(shape: Shape, scale: Scale, page: &mut [u8], at: usize) -> usize {
-    let rows = shape.rows();
     let wide = groups(shape.columns(), shape, scale);
     let mut end = at;
-    let mut n = 0;
-    while n <= rows {
+    for n in 0..=shape.rows() {
         let from = down(n, shape, scale);
         end = page::form(b"M# #h#", &[scale.left, from, wide], page, end);
-        n += 1;
     }
     end
 }
@@ -198,12 +192,10 @@ fn put_numbers(shape: Shape, scale: Scale, page: &mut [u8], at: usize) -> usize 
 }
 
 fn put_columns(shape: Shape, scale: Scale, page: &mut [u8], at: usize) -> usize {
-    let columns = shape.columns();
     let half = groups(1, shape, scale) / 2;
     let over = scale.top - scale.top / 20;
     let mut end = at;
-    let mut n = 0;
-    while n < columns {
+    for n in 0..shape.columns() {
         let middle = across(n, shape, scale) + half;
         end = page::form(
             b"<text x=\"#\" y=\"#\">#</text>\n",
@@ -211,18 +203,15 @@ fn put_columns(shape: Shape, scale: Scale, page: &mut [u8], at: usize) -> usize 
             page,
             end,
         );
-        n += 1;
     }
     end
 }
 
 fn put_rows(shape: Shape, scale: Scale, page: &mut [u8], at: usize) -> usize {
-    let rows = shape.rows();
     let half = groups(1, shape, scale) / 2 + octets::least(scale.letter, 4294836225) / 3;
     let beside = scale.left - scale.left / 4;
     let mut end = at;
-    let mut n = 0;
-    while n < rows {
+    for n in 0..shape.rows() {
         let middle = down(n, shape, scale) + half;
         end = page::form(
             b"<text x=\"#\" y=\"#\">#</text>\n",
@@ -230,25 +219,20 @@ fn put_rows(shape: Shape, scale: Scale, page: &mut [u8], at: usize) -> usize {
             page,
             end,
         );
-        n += 1;
     }
     end
 }
 
 // The diagonals, all in one path.
 fn put_shifts(record: &[u8], shape: Shape, scale: Scale, page: &mut [u8], at: usize) -> usize {
-    let rows = shape.rows();
-    let a = page::form(
+    let mut end = page::form(
         b"<path fill=\"none\" stroke=\"midnightblue\" stroke-width=\"#\" d=\"",
         &[scale.letter / 6],
         page,
         at,
     );
-    let mut end = a;
-    let mut row = 0;
-    while row < rows {
+    for row in 0..shape.rows() {
         end = put_row(record, shape, scale, row, page, end);
-        row += 1;
     }
     page::put(b"\"/>\n", page, end)
 }
@@ -261,15 +245,12 @@ fn put_row(
     page: &mut [u8],
     at: usize,
 ) -> usize {
-    let columns = shape.columns();
     let mut end = at;
-    let mut column = 0;
-    while column < columns {
+    for column in 0..shape.columns() {
         let shift = parted::entry(record, shape, row, column);
         let left = across(column, shape, scale);
         let top = down(row, shape, scale);
         end = put_shift(shift, left, top, shape, scale, page, end);
-        column += 1;
     }
     end
 }

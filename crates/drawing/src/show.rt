@@ -1,8 +1,6 @@
 // The command `show`: the tables of a record, or one of them as a picture.
-ghost use Rattle.std.specs.Prelude.{◌≡◌, length};
-
 use crate::{grid, parted, picture};
-use bits::number::{DONE, PARAMETER};
+use bits::number::Refusal;
 use console::argv::Words;
 use console::errors::Errors;
 use console::host::Host;
@@ -11,37 +9,15 @@ use reasons::records;
 use text::octets;
 
 // The names of the words, in their order.
-const NAMES: [u8; 13] = *b"--record\n--z\n";
+const NAMES: &[u8] = b"--record\n--z\n";
 
 // No size of a record: the word Z is not given.
 const NOT_GIVEN: usize = 1_000_000;
 
 // The characters of the largest picture, some forty for each entry of a table; the three largest grids have fewer.
-fn page_room() -> [u8; 262144]
-    ensures { 262144 ≡ length result }
-{
-    [0; 262144]
-}
+const PAGE: usize = 262_144;
 
-pub fn run(rt: &impl Host, words: Words) -> i32 {
-    if words.help {
-        return say(rt, words);
-    }
-    if !argv::fits(rt, &NAMES, 1, b"--svg\n-o\n") {
-        return say(rt, words);
-    }
-    let z = argv::read_or(rt, &NAMES, b"--z", NOT_GIVEN, NOT_GIVEN);
-    if z.bad {
-        return say(rt, words);
-    }
-    read(rt, words.svg, z.value)
-}
-
-fn say(rt: &impl Host, words: Words) -> i32 {
-    help::say(
-        rt,
-        words.help,
-        b"usage: kuambyte show RECORD [Z] [--svg] [-o FILE]
+const HELP: &[u8] = b"usage: kuambyte show RECORD [Z] [--svg] [-o FILE]
 
 Writes the tables of a profile record as grids of shifts, with a dot for empty: rows and columns are numbered from 0, and bars set the
 staircase apart, and the extension. Of a refused record it says the first rule that it breaks, in the documents' words, and where.
@@ -52,56 +28,63 @@ staircase apart, and the extension. Of a refused record it says the first rule t
   -o FILE   write to this file, and not to standard output; it is never half written
 
 Words may also be given by name, in any order: --record RECORD --z Z.
-",
-    )
+";
+
+pub fn run(rt: &impl Host, words: Words) -> i32 {
+    match asked(rt, words) {
+        Some(z) => read(rt, words.svg, z),
+        None => help::say(rt, words.help, HELP),
+    }
 }
 
-fn read(rt: &impl Host, svg: bool, z: usize) -> i32 {
+// The size that the words ask for, if they ask for one, unless they ask for help or do not fit.
+fn asked(rt: &impl Host, words: Words) -> Option<Option<usize>> {
+    if words.help || !argv::fits(rt, NAMES, 1, b"--svg\n-o\n") {
+        return None;
+    }
+    match argv::read_or(rt, NAMES, b"--z", NOT_GIVEN, NOT_GIVEN)? {
+        NOT_GIVEN => Some(None),
+        z => Some(Some(z)),
+    }
+}
+
+fn read(rt: &impl Host, svg: bool, z: Option<usize>) -> i32 {
     let mut store = io::large_buffer();
-    let file = files::named(rt, &NAMES, b"--record", &mut store);
-    if file.failed {
+    let Some(count) = files::named(rt, NAMES, b"--record", &mut store) else {
         return status::FAILED;
+    };
+    let record = octets::first(&store, count);
+    match profile::judge(record) {
+        Ok(()) => answer(rt, svg, z, record),
+        Err(refusal) => records::refuse(rt, refusal, record),
     }
-    let record = octets::first(&store, file.count);
-    let number = profile::judge(record);
-    if number != DONE {
-        return records::refuse(rt, number, record);
-    }
-    answer(rt, svg, z, record)
 }
 
-fn answer(rt: &impl Host, svg: bool, z: usize, record: &[u8]) -> i32 {
+fn answer(rt: &impl Host, svg: bool, z: Option<usize>, record: &[u8]) -> i32 {
     let t = parts::two_octets(record, 8);
-    let i = index_of(record, z, t);
-    if is_other(z, i, t) {
-        return refuse(rt, record, t);
+    let Some(z) = z else {
+        return draw(rt, svg, None, t, record);
+    };
+    match index_of(record, z, t) {
+        Some(i) => draw(rt, svg, Some(i), t, record),
+        None => refuse(rt, record, t),
     }
-    let mut page = page_room();
+}
+
+// Draws table i, or all where none was asked for.
+fn draw(rt: &impl Host, svg: bool, i: Option<usize>, t: usize, record: &[u8]) -> i32 {
+    let mut page = [0u8; PAGE];
     let n = put(svg, i, t, record, &mut page);
     files::write(rt, octets::first(&page, n))
 }
 
-// Which table has this size, counted from 0, or t where none has.
-fn index_of(record: &[u8], z: usize, t: usize) -> usize {
-    let mut i = 0;
-    while i < t {
-        if size(record, i) == z {
-            return i;
-        }
-        i += 1;
-    }
-    i
+// Which table has this size, counted from 0.
+fn index_of(record: &[u8], z: usize, t: usize) -> Option<usize> {
+    (0..t).position(|i| size(record, i) == z)
 }
 
 fn size(record: &[u8], i: usize) -> usize {
     parts::two_octets(record, 10 + parts::times(4, i))
-}
-
-fn is_other(z: usize, i: usize, t: usize) -> bool {
-    if z == NOT_GIVEN {
-        return false;
-    }
-    i >= t
 }
 
 // Of a table, 8 is for its z.
@@ -115,30 +98,28 @@ fn refuse(rt: &impl Errors, record: &[u8], t: usize) -> i32 {
     let b = put_sizes(record, t, &mut line, a);
     let c = page::put(b"\n", &mut line, b);
     rt.say(octets::first(&line, c));
-    meanings::exit_status(PARAMETER)
+    meanings::exit_status(Refusal::Parameter)
 }
 
 fn put_sizes(record: &[u8], t: usize, page: &mut [u8], at: usize) -> usize {
     let mut end = at;
-    let mut i = 0;
-    while i < t {
+    for i in 0..t {
         end = page::form(b" #", &[size(record, i)], page, end);
-        i += 1;
     }
     end
 }
 
-// The picture is that of one table, and the grids are those of all where none was asked for.
-fn put(svg: bool, i: usize, t: usize, record: &[u8], page: &mut [u8]) -> usize {
+// The picture is that of one table, the last where none was asked for, and the grids are those of all then.
+fn put(svg: bool, i: Option<usize>, t: usize, record: &[u8], page: &mut [u8]) -> usize {
     if svg {
-        let table = octets::least(i, counted::left(t, 1));
+        let table = i.unwrap_or(t.saturating_sub(1));
         return picture::put(record, parted::of(record, table), page, 0);
     }
     let a = put_summary(record, t, page);
-    if i < t {
-        return grid::put(record, parted::of(record, i), page, a);
+    match i {
+        Some(i) => grid::put(record, parted::of(record, i), page, a),
+        None => put_grids(record, t, page, a),
     }
-    put_grids(record, t, page, a)
 }
 
 fn put_summary(record: &[u8], t: usize, page: &mut [u8]) -> usize {
@@ -157,10 +138,8 @@ fn put_summary(record: &[u8], t: usize, page: &mut [u8]) -> usize {
 
 fn put_grids(record: &[u8], t: usize, page: &mut [u8], at: usize) -> usize {
     let mut end = at;
-    let mut i = 0;
-    while i < t {
+    for i in 0..t {
         end = grid::put(record, parted::of(record, i), page, end);
-        i += 1;
     }
     end
 }

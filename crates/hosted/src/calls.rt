@@ -1,21 +1,21 @@
 // The calls of the library that more than one command makes, each in one place.
-ghost use Rattle.std.specs.Prelude.{◌≤◌};
+ghost use Rattle.std.specs.Prelude.{◌≤◌, IfOk};
 
-use crate::asked::{Parameters, eight_times};
+use crate::asked::Parameters;
+use crate::shelves::Shelves;
 use advice::Least;
-use bits::number::Written;
+use bits::number::Refusal;
 use checking::Checker;
 
 pub fn send<'a>(
-    private: &'a [u8],
-    public: &'a [u8],
+    shelves: Shelves<'a>,
     asked: Parameters,
     block: &[u8],
     bits: &mut [u8],
-) -> Written {
+) -> Result<usize, Refusal> {
     shelf::hosted_send(
-        private,
-        public,
+        shelves.private,
+        shelves.public,
         asked.tenant,
         asked.profile,
         block,
@@ -34,19 +34,19 @@ pub fn checker(plain: bool) -> Checker {
 }
 
 pub fn receive<'a>(
-    private: &'a [u8],
-    public: &'a [u8],
+    shelves: Shelves<'a>,
     asked: Parameters,
     bits: &[u8],
     checker: Checker,
     block: &mut [u8],
-) -> Written {
+) -> Result<usize, Refusal> {
     shelf::hosted_receive(
-        private,
-        public,
+        shelves.private,
+        shelves.public,
         asked.tenant,
         asked.profile,
-        eight_times(asked.octets),
+        // More than is read of a command is no A of a block, as 0 is none, and so it is refused.
+        asked.octets.checked_mul(8).unwrap_or(0),
         asked.terms,
         bits,
         checker,
@@ -55,8 +55,8 @@ pub fn receive<'a>(
 }
 
 // The least G with which every code block has room. The blocks with the larger share are no more than all blocks, so that the others can be counted.
-pub fn least(record: &[u8], asked: Parameters) -> Least
-    ensures { result.larger ≤ result.blocks }
+pub fn least(record: &[u8], asked: Parameters) -> Result<Least, Refusal>
+    ensures { IfOk result (λ least. least.larger ≤ least.blocks) }
 {
     advice::least_bits(record, asked.octets, asked.terms)
 }

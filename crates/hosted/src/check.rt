@@ -7,7 +7,7 @@ use crate::asked::Parameters;
 use crate::shelves::Shelves;
 use crate::{asked, calls, refusal, shelves};
 use bits::inner::some_over;
-use bits::number::{DONE, PARAMETER};
+use bits::number::Refusal;
 use checking::Checker;
 use console::argv::Words;
 use console::errors::Errors;
@@ -16,28 +16,10 @@ use console::{argv, files, help, page, status};
 use text::octets;
 
 // The names of the words, in their order.
-const NAMES: [u8; 42] = *b"--private\n--public\n--tenant\n--profile\n--z\n";
+const NAMES: &[u8] = b"--private\n--public\n--tenant\n--profile\n--z\n";
 
-pub fn run(rt: &impl Host, words: Words) -> i32 {
-    if words.help {
-        return say(rt, words);
-    }
-    if !argv::fits(rt, &NAMES, 5, b"--plain\n--text\n-o\n") {
-        return say(rt, words);
-    }
-    let asked = asked::for_lookup(rt, &NAMES);
-    let z = argv::read_number(rt, &NAMES, b"--z", usize::MAX);
-    if asked.bad | z.bad {
-        return say(rt, words);
-    }
-    read(rt, words, asked, z.value)
-}
-
-fn say(rt: &impl Host, words: Words) -> i32 {
-    help::say(
-        rt,
-        words.help,
-        b"usage: kuambyte check PRIVATE PUBLIC TENANT PROFILE Z [--plain] [--text] [-o FILE] < word
+const HELP: &[u8] =
+    b"usage: kuambyte check PRIVATE PUBLIC TENANT PROFILE Z [--plain] [--text] [-o FILE] < word
 
 Reads a word of (kb+m+x) times Z bits and writes whether it checks: whether every row of the spread-out matrix sums to an even number
 over it. Where it does not, a line for each group of rows that has odd ones says which they are, counted from 0 in their group.
@@ -50,42 +32,40 @@ over it. Where it does not, a line for each group of rows that has odd ones says
   -o FILE           write to this file, and not to standard output; it is never half written
 
 Words may also be given by name, in any order: --private PRIVATE --public PUBLIC --tenant TENANT --profile PROFILE --z Z.
-",
-    )
+";
+
+pub fn run(rt: &impl Host, words: Words) -> i32 {
+    match asked(rt, words) {
+        Some((asked, z)) => read(rt, words, asked, z),
+        None => help::say(rt, words.help, HELP),
+    }
+}
+
+// What the words ask for, and Z, unless they ask for help or do not fit.
+fn asked(rt: &impl Host, words: Words) -> Option<(Parameters, usize)> {
+    if words.help || !argv::fits(rt, NAMES, 5, b"--plain\n--text\n-o\n") {
+        return None;
+    }
+    let asked = asked::for_lookup(rt, NAMES);
+    let z = argv::read_number(rt, NAMES, b"--z", usize::MAX);
+    Some((asked?, z?))
 }
 
 fn read(rt: &impl Host, words: Words, asked: Parameters, z: usize) -> i32 {
-    let mut store = shelves::room();
-    let found = shelves::named(rt, &NAMES, &mut store);
-    if found.failed {
-        return status::FAILED;
+    let mut store = [0u8; shelves::STORE];
+    match shelves::named(rt, NAMES, &mut store) {
+        Some(shelves) => read_word(rt, words, asked, z, shelves),
+        None => status::FAILED,
     }
-    read_word(rt, words, asked, z, &store, found)
 }
 
-fn read_word(
-    rt: &impl Host,
-    words: Words,
-    asked: Parameters,
-    z: usize,
-    store: &[u8],
-    found: Shelves,
-) -> i32 {
+fn read_word(rt: &impl Host, words: Words, asked: Parameters, z: usize, shelves: Shelves) -> i32 {
     let mut bits = files::bits_room();
-    let input = files::input(rt, words.text, &mut bits);
-    if input.failed {
+    let Some(count) = files::input(rt, words.text, &mut bits) else {
         return status::FAILED;
-    }
+    };
     let checker = calls::checker(words.plain);
-    answer(
-        rt,
-        asked,
-        z,
-        checker,
-        store,
-        found,
-        octets::first(&bits, input.count),
-    )
+    answer(rt, asked, z, checker, shelves, octets::first(&bits, count))
 }
 
 fn answer(
@@ -93,29 +73,27 @@ fn answer(
     asked: Parameters,
     z: usize,
     checker: Checker,
-    store: &[u8],
-    found: Shelves,
+    shelves: Shelves,
     word: &[u8],
 ) -> i32 {
-    let private = shelves::private(store, found);
-    let public = shelves::public(store, found);
-    let tenant = asked.tenant;
-    let profile = asked.profile;
-    let verdict = shelf::hosted_check(private, public, tenant, profile, z, word, checker);
-    let record = shelf::lookup(private, public, tenant, profile);
-    if verdict.number != DONE {
-        return refuse(rt, verdict.number, record, asked);
+    let Shelves { private, public } = shelves;
+    let Parameters {
+        tenant,
+        profile,
+        ..
+    } = asked;
+    let record = shelves.record(asked);
+    match shelf::hosted_check(private, public, tenant, profile, z, word, checker) {
+        Ok(true) => files::write(rt, b"checks\n"),
+        Ok(false) => answer_odd(rt, asked, record, z, word),
+        Err(refusal) => refuse(rt, refusal, record, asked),
     }
-    if verdict.checks {
-        return files::write(rt, b"checks\n");
-    }
-    write_odd(rt, record, z, word)
 }
 
 // Of a word, 8 is for its z or its length, and not for what a block is sent with.
-fn refuse(rt: &impl Errors, number: u32, record: &[u8], asked: Parameters) -> i32 {
-    if number != PARAMETER {
-        return refusal::write(rt, number, record, asked);
+fn refuse(rt: &impl Errors, refusal: Refusal, record: &[u8], asked: Parameters) -> i32 {
+    if refusal != Refusal::Parameter {
+        return refusal::write(rt, refusal, record, asked);
     }
     let mut line = io::buffer();
     let a = page::put(
@@ -125,21 +103,19 @@ fn refuse(rt: &impl Errors, number: u32, record: &[u8], asked: Parameters) -> i3
     );
     let b = put_sizes(record, &mut line, a);
     let c = page::put(b"\n", &mut line, b);
-    refusal::say(rt, number, octets::first(&line, c))
+    refusal::say(rt, refusal, octets::first(&line, c))
 }
 
 // Puts how long the words of each of the profile's sizes are.
 fn put_sizes(record: &[u8], line: &mut [u8], at: usize) -> usize {
-    if profile::judge(record) != DONE {
+    if profile::judge(record).is_err() {
         return at;
     }
     let t = profile::inner::t(record);
     let mut end = at;
-    let mut i = 0;
-    while i < t {
+    for i in 0..t {
         let next = put_between(i == 0, i + 1 == t, line, end);
         end = put_size(record, i, line, next);
-        i += 1;
     }
     end
 }
@@ -163,28 +139,29 @@ fn put_between(first: bool, last: bool, line: &mut [u8], at: usize) -> usize {
     page::put(b",", line, at)
 }
 
-fn write_odd(rt: &impl Host, record: &[u8], z: usize, word: &[u8]) -> i32 {
+fn answer_odd(rt: &impl Host, asked: Parameters, record: &[u8], z: usize, word: &[u8]) -> i32 {
     let mut sums = [0u8; 3240];
-    let summed = checking::row_sums(record, z, word, &mut sums);
+    match checking::row_sums(record, z, word, &mut sums) {
+        Ok(count) => write_odd(rt, octets::first(&sums, count), z),
+        Err(refusal) => refuse(rt, refusal, record, asked),
+    }
+}
+
+fn write_odd(rt: &impl Host, sums: &[u8], z: usize) -> i32 {
     let mut page = io::large_buffer();
     let a = page::put(b"does not check; odd rows:\n", &mut page, 0);
-    let b = put_groups(octets::first(&sums, summed.count), z, &mut page, a);
+    let b = put_groups(sums, z, &mut page, a);
     files::write(rt, octets::first(&page, b))
 }
 
 // Puts a line for each group of z rows that has odd ones.
 fn put_groups(sums: &[u8], z: usize, page: &mut [u8], at: usize) -> usize {
+    if z == 0 {
+        return at;
+    }
     let mut end = at;
-    let mut from = 0;
-    let mut group = 0;
-    while from < sums.len() {
-        let n = octets::least(z, sums.len() - from);
-        if n == 0 {
-            return end;
-        }
-        end = put_group(group, &sums[from..from + n], page, end);
-        from += n;
-        group += 1;
+    for (group, rows) in sums.chunks(z).enumerate() {
+        end = put_group(group, rows, page, end);
     }
     end
 }
@@ -200,10 +177,8 @@ fn put_group(group: usize, sums: &[u8], page: &mut [u8], at: usize) -> usize {
 
 fn put_rows(sums: &[u8], page: &mut [u8], at: usize) -> usize {
     let mut end = at;
-    let mut row = 0;
-    while row < sums.len() {
-        end = put_row(sums[row], row, page, end);
-        row += 1;
+    for (row, sum) in sums.iter().enumerate() {
+        end = put_row(*sum, row, page, end);
     }
     end
 }

@@ -5,16 +5,14 @@ use crate::asked::Parameters;
 use crate::calls;
 use advice::Least;
 use bits::count::CodedBits;
-use bits::number::DONE;
 use console::page;
 
 // Puts the least G, and the blocks' shares of it, behind the text; `room` is the word for what it has, where that was not said before.
 pub fn put(record: &[u8], asked: Parameters, room: &[u8], page: &mut [u8], at: usize) -> usize {
-    let least = calls::least(record, asked);
-    if least.number != DONE {
+    let Ok(least) = calls::least(record, asked) else {
         let a = page::put(b"no G up to 65536 has", page, at);
         return page::put(room, page, a);
-    }
+    };
     put_least(least, room, page, at)
 }
 

@@ -2,33 +2,14 @@
 use crate::asked::Parameters;
 use crate::shelves::Shelves;
 use crate::{asked, shelves};
-use bits::number::DONE;
 use console::argv::Words;
 use console::host::Host;
 use console::{argv, files, help, status};
 
 // The names of the words, in their order.
-const NAMES: [u8; 38] = *b"--private\n--public\n--tenant\n--profile\n";
+const NAMES: &[u8] = b"--private\n--public\n--tenant\n--profile\n";
 
-pub fn run(rt: &impl Host, words: Words) -> i32 {
-    if words.help {
-        return say(rt, words);
-    }
-    if !argv::fits(rt, &NAMES, 4, b"-o\n") {
-        return say(rt, words);
-    }
-    let asked = asked::for_lookup(rt, &NAMES);
-    if asked.bad {
-        return say(rt, words);
-    }
-    read(rt, asked)
-}
-
-fn say(rt: &impl Host, words: Words) -> i32 {
-    help::say(
-        rt,
-        words.help,
-        b"usage: kuambyte lookup PRIVATE PUBLIC TENANT PROFILE [-o FILE] > record
+const HELP: &[u8] = b"usage: kuambyte lookup PRIVATE PUBLIC TENANT PROFILE [-o FILE] > record
 
 Writes the profile record that the tenant is given: its own from the private shelf, else the public one of that number.
 
@@ -37,28 +18,34 @@ Writes the profile record that the tenant is given: its own from the private she
   -o FILE           write to this file, and not to standard output; it is never half written
 
 Words may also be given by name, in any order: --private PRIVATE --public PUBLIC --tenant TENANT --profile PROFILE.
-",
-    )
+";
+
+pub fn run(rt: &impl Host, words: Words) -> i32 {
+    match asked(rt, words) {
+        Some(asked) => read(rt, asked),
+        None => help::say(rt, words.help, HELP),
+    }
+}
+
+// What the words ask for, unless they ask for help or do not fit.
+fn asked(rt: &impl Host, words: Words) -> Option<Parameters> {
+    if words.help || !argv::fits(rt, NAMES, 4, b"-o\n") {
+        return None;
+    }
+    asked::for_lookup(rt, NAMES)
 }
 
 fn read(rt: &impl Host, asked: Parameters) -> i32 {
-    let mut store = shelves::room();
-    let found = shelves::named(rt, &NAMES, &mut store);
-    if found.failed {
-        return status::FAILED;
+    let mut store = [0u8; shelves::STORE];
+    match shelves::named(rt, NAMES, &mut store) {
+        Some(shelves) => answer(rt, asked, shelves),
+        None => status::FAILED,
     }
-    answer(rt, asked, &store, found)
 }
 
-fn answer(rt: &impl Host, asked: Parameters, store: &[u8], found: Shelves) -> i32 {
-    let private = shelves::private(store, found);
-    let public = shelves::public(store, found);
-    let number = shelf::lookup_number(private, public, asked.tenant, asked.profile);
-    if number != DONE {
-        return shelves::refuse(rt, number, asked, store, found);
+fn answer(rt: &impl Host, asked: Parameters, shelves: Shelves) -> i32 {
+    match shelf::lookup(shelves.private, shelves.public, asked.tenant, asked.profile) {
+        Ok(record) => files::write(rt, record),
+        Err(refusal) => shelves::refuse(rt, refusal, asked, shelves),
     }
-    files::write(
-        rt,
-        shelf::lookup(private, public, asked.tenant, asked.profile),
-    )
 }

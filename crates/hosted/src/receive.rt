@@ -2,7 +2,7 @@
 use crate::asked::Parameters;
 use crate::shelves::Shelves;
 use crate::{asked, calls, shelves};
-use bits::number::DONE;
+use bits::count::CodedBits;
 use checking::Checker;
 use console::argv::Words;
 use console::host::Host;
@@ -10,27 +10,10 @@ use console::{argv, files, help, status};
 use text::octets;
 
 // The names of the words, in their order.
-const NAMES: [u8; 64] = *b"--private\n--public\n--tenant\n--profile\n--octets\n--layers\n--order\n";
+const NAMES: &[u8] = b"--private\n--public\n--tenant\n--profile\n--octets\n--layers\n--order\n";
 
-pub fn run(rt: &impl Host, words: Words) -> i32 {
-    if words.help {
-        return say(rt, words);
-    }
-    if !argv::fits(rt, &NAMES, 7, b"--rv\n--edition\n--plain\n--text\n-o\n") {
-        return say(rt, words);
-    }
-    let asked = asked::for_receive(rt, &NAMES);
-    if asked.bad {
-        return say(rt, words);
-    }
-    read(rt, words, asked)
-}
-
-fn say(rt: &impl Host, words: Words) -> i32 {
-    help::say(
-        rt,
-        words.help,
-        b"usage: kuambyte receive PRIVATE PUBLIC TENANT PROFILE OCTETS LAYERS ORDER [--rv N] [--edition N] [--plain] [--text] [-o FILE] < bits > block
+const HELP: &[u8] =
+    b"usage: kuambyte receive PRIVATE PUBLIC TENANT PROFILE OCTETS LAYERS ORDER [--rv N] [--edition N] [--plain] [--text] [-o FILE] < bits > block
 
 Reads the bits that were sent of a transport block of OCTETS octets and writes the block. How many bits there are is G.
 
@@ -47,51 +30,54 @@ Reads the bits that were sent of a transport block of OCTETS octets and writes t
 
 Words may also be given by name, in any order: --private PRIVATE --public PUBLIC --tenant TENANT --profile PROFILE
 --octets OCTETS --layers LAYERS --order ORDER.
-",
-    )
+";
+
+pub fn run(rt: &impl Host, words: Words) -> i32 {
+    match asked(rt, words) {
+        Some(asked) => read(rt, words, asked),
+        None => help::say(rt, words.help, HELP),
+    }
+}
+
+// What the words ask for, unless they ask for help or do not fit.
+fn asked(rt: &impl Host, words: Words) -> Option<Parameters> {
+    if words.help || !argv::fits(rt, NAMES, 7, b"--rv\n--edition\n--plain\n--text\n-o\n") {
+        return None;
+    }
+    asked::for_receive(rt, NAMES)
 }
 
 fn read(rt: &impl Host, words: Words, asked: Parameters) -> i32 {
-    let mut store = shelves::room();
-    let found = shelves::named(rt, &NAMES, &mut store);
-    if found.failed {
-        return status::FAILED;
+    let mut store = [0u8; shelves::STORE];
+    match shelves::named(rt, NAMES, &mut store) {
+        Some(shelves) => read_bits(rt, words, asked, shelves),
+        None => status::FAILED,
     }
-    read_bits(rt, words, asked, &store, found)
 }
 
-fn read_bits(rt: &impl Host, words: Words, asked: Parameters, store: &[u8], found: Shelves) -> i32 {
+fn read_bits(rt: &impl Host, words: Words, asked: Parameters, shelves: Shelves) -> i32 {
     let mut bits = files::bits_room();
-    let input = files::input(rt, words.text, &mut bits);
-    if input.failed {
+    let Some(count) = files::input(rt, words.text, &mut bits) else {
         return status::FAILED;
-    }
+    };
     let checker = calls::checker(words.plain);
-    answer(
-        rt,
-        asked,
-        checker,
-        store,
-        found,
-        octets::first(&bits, input.count),
-    )
+    answer(rt, asked, checker, shelves, octets::first(&bits, count))
 }
 
 fn answer(
     rt: &impl Host,
     asked: Parameters,
     checker: Checker,
-    store: &[u8],
-    found: Shelves,
+    shelves: Shelves,
     bits: &[u8],
 ) -> i32 {
-    let private = shelves::private(store, found);
-    let public = shelves::public(store, found);
     let mut block = files::block_room();
-    let received = calls::receive(private, public, asked, bits, checker, &mut block);
-    if received.number != DONE {
-        let given = asked::with_bits(asked, bits.len());
-        return shelves::refuse(rt, received.number, given, store, found);
+    let given = Parameters {
+        g: CodedBits(bits.len()),
+        ..asked
+    };
+    match calls::receive(shelves, asked, bits, checker, &mut block) {
+        Ok(count) => files::write(rt, octets::first(&block, count)),
+        Err(refusal) => shelves::refuse(rt, refusal, given, shelves),
     }
-    files::write(rt, octets::first(&block, received.count))
 }

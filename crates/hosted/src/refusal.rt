@@ -3,55 +3,59 @@ use crate::asked::Parameters;
 use crate::least;
 use bits::count::Terms;
 use bits::count::inner::{is_usable, place_bits};
-use bits::number::DONE;
+use bits::number::Refusal;
 use console::errors::Errors;
 use console::{meanings, page};
 use text::octets;
 
 // Says the number, what it means and what would be accepted. The exit status is the number.
-pub fn write(rt: &impl Errors, number: u32, record: &[u8], asked: Parameters) -> i32 {
+pub fn write(rt: &impl Errors, refusal: Refusal, record: &[u8], asked: Parameters) -> i32 {
     let mut line = io::buffer();
-    let n = put(number, record, asked, &mut line);
-    say(rt, number, octets::first(&line, n))
+    let n = put(refusal, record, asked, &mut line);
+    say(rt, refusal, octets::first(&line, n))
 }
 
-pub fn say(rt: &impl Errors, number: u32, line: &[u8]) -> i32 {
+pub fn say(rt: &impl Errors, refusal: Refusal, line: &[u8]) -> i32 {
     rt.say(line);
-    meanings::exit_status(number)
+    meanings::exit_status(refusal)
 }
 
 // Puts the line, which ends with a line end.
-fn put(number: u32, record: &[u8], asked: Parameters, line: &mut [u8]) -> usize {
-    let a = page::form(b"refused #: ", &[number as usize], line, 0);
-    let b = meanings::put(number, line, a);
-    let c = hint(number, record, asked, line, b);
+fn put(refusal: Refusal, record: &[u8], asked: Parameters, line: &mut [u8]) -> usize {
+    let a = page::form(b"refused #: ", &[refusal as usize], line, 0);
+    let b = meanings::put(refusal, line, a);
+    let c = hint(refusal, record, asked, line, b);
     page::put(b"\n", line, c)
 }
 
 // What would be accepted, where that can be said.
-fn hint(number: u32, record: &[u8], asked: Parameters, line: &mut [u8], at: usize) -> usize {
-    match number {
-        1 => page::put(b"; tenants are 1 to 65535", line, at),
-        2 => page::put(
+fn hint(refusal: Refusal, record: &[u8], asked: Parameters, line: &mut [u8], at: usize) -> usize {
+    match refusal {
+        Refusal::TenantZero => page::put(b"; tenants are 1 to 65535", line, at),
+        Refusal::PrivateShelf => page::put(
             b"; kuambyte shelf private FILE says which rule it breaks",
             line,
             at,
         ),
-        3 => page::put(
+        Refusal::PublicShelf => page::put(
             b"; kuambyte shelf public FILE says which rule it breaks",
             line,
             at,
         ),
-        4 => page::put(b"; kuambyte shelf lists what is on one", line, at),
-        5 | 6 => page::put(b"; kuambyte show RECORD says where", line, at),
-        8 => parameters(asked, line, at),
-        10 | 13 => least_bits(record, asked, line, at),
-        12 => page::put(
+        Refusal::NoRecord => page::put(b"; kuambyte shelf lists what is on one", line, at),
+        Refusal::Profile | Refusal::NoStaircase => page::put(
+            b"; kuambyte show RECORD says where",
+            line,
+            at,
+        ),
+        Refusal::Parameter => parameters(asked, line, at),
+        Refusal::TooFewPlaces | Refusal::NoRoom => least_bits(record, asked, line, at),
+        Refusal::NoBit => page::put(
             b"; bits are octets 0 and 1, or with --text characters",
             line,
             at,
         ),
-        16 => version(record, line, at),
+        Refusal::Version => version(record, line, at),
         _ => at,
     }
 }
@@ -76,7 +80,7 @@ fn product(terms: Terms, line: &mut [u8], at: usize) -> usize {
 
 // The redundancy versions that go with the profile's type.
 fn version(record: &[u8], line: &mut [u8], at: usize) -> usize {
-    if profile::judge(record) != DONE {
+    if profile::judge(record).is_err() {
         return at;
     }
     if profile::inner::kind(record) == 1 {

@@ -2,34 +2,16 @@
 use crate::asked::Parameters;
 use crate::shelves::Shelves;
 use crate::{asked, calls, shelves};
-use bits::number::DONE;
 use console::argv::Words;
 use console::host::Host;
 use console::{argv, files, help, status};
 use text::octets;
 
 // The names of the words, in their order.
-const NAMES: [u8; 62] = *b"--private\n--public\n--tenant\n--profile\n--layers\n--order\n--bits\n";
+const NAMES: &[u8] = b"--private\n--public\n--tenant\n--profile\n--layers\n--order\n--bits\n";
 
-pub fn run(rt: &impl Host, words: Words) -> i32 {
-    if words.help {
-        return say(rt, words);
-    }
-    if !argv::fits(rt, &NAMES, 7, b"--rv\n--edition\n--text\n-o\n") {
-        return say(rt, words);
-    }
-    let asked = asked::for_send(rt, &NAMES);
-    if asked.bad {
-        return say(rt, words);
-    }
-    read(rt, words.text, asked)
-}
-
-fn say(rt: &impl Host, words: Words) -> i32 {
-    help::say(
-        rt,
-        words.help,
-        b"usage: kuambyte send PRIVATE PUBLIC TENANT PROFILE LAYERS ORDER BITS [--rv N] [--edition N] [--text] [-o FILE] < block > bits
+const HELP: &[u8] =
+    b"usage: kuambyte send PRIVATE PUBLIC TENANT PROFILE LAYERS ORDER BITS [--rv N] [--edition N] [--text] [-o FILE] < block > bits
 
 Reads a transport block of 1 to 2048 packed octets and writes the BITS bits that are sent of it.
 
@@ -46,58 +28,56 @@ Reads a transport block of 1 to 2048 packed octets and writes the BITS bits that
 
 Words may also be given by name, in any order: --private PRIVATE --public PUBLIC --tenant TENANT --profile PROFILE
 --layers LAYERS --order ORDER --bits BITS.
-",
-    )
+";
+
+pub fn run(rt: &impl Host, words: Words) -> i32 {
+    match asked(rt, words) {
+        Some(asked) => read(rt, words.text, asked),
+        None => help::say(rt, words.help, HELP),
+    }
+}
+
+// What the words ask for, unless they ask for help or do not fit.
+fn asked(rt: &impl Host, words: Words) -> Option<Parameters> {
+    if words.help || !argv::fits(rt, NAMES, 7, b"--rv\n--edition\n--text\n-o\n") {
+        return None;
+    }
+    asked::for_send(rt, NAMES)
 }
 
 fn read(rt: &impl Host, text: bool, asked: Parameters) -> i32 {
-    let mut store = shelves::room();
-    let found = shelves::named(rt, &NAMES, &mut store);
-    if found.failed {
-        return status::FAILED;
+    let mut store = [0u8; shelves::STORE];
+    match shelves::named(rt, NAMES, &mut store) {
+        Some(shelves) => read_block(rt, text, asked, shelves),
+        None => status::FAILED,
     }
-    read_block(rt, text, asked, &store, found)
 }
 
-fn read_block(rt: &impl Host, text: bool, asked: Parameters, store: &[u8], found: Shelves) -> i32 {
+fn read_block(rt: &impl Host, text: bool, asked: Parameters, shelves: Shelves) -> i32 {
     let mut block = files::block_room();
-    let input = files::input(rt, false, &mut block);
-    if input.failed {
-        return status::FAILED;
+    match files::input(rt, false, &mut block) {
+        Some(count) => answer(rt, text, asked, shelves, octets::first(&block, count)),
+        None => status::FAILED,
     }
-    answer(
-        rt,
-        text,
-        asked,
-        store,
-        found,
-        octets::first(&block, input.count),
-    )
 }
 
-fn answer(
-    rt: &impl Host,
-    text: bool,
-    asked: Parameters,
-    store: &[u8],
-    found: Shelves,
-    block: &[u8],
-) -> i32 {
-    let private = shelves::private(store, found);
-    let public = shelves::public(store, found);
+fn answer(rt: &impl Host, text: bool, asked: Parameters, shelves: Shelves, block: &[u8]) -> i32 {
     let mut bits = files::bits_room();
-    let sent = calls::send(private, public, asked, block, &mut bits);
-    if sent.number != DONE {
-        let given = asked::with_octets(asked, block.len());
-        return shelves::refuse(rt, sent.number, given, store, found);
+    let given = Parameters {
+        octets: block.len(),
+        ..asked
+    };
+    match calls::send(shelves, asked, block, &mut bits) {
+        Ok(count) => write(rt, text, count, &mut bits),
+        Err(refusal) => shelves::refuse(rt, refusal, given, shelves),
     }
-    write(rt, text, sent.count, &mut bits)
 }
 
 fn write(rt: &impl Host, text: bool, count: usize, bits: &mut [u8]) -> i32 {
-    if text {
-        let n = files::as_text(bits, count);
-        return files::write(rt, octets::first(bits, n));
-    }
-    files::write(rt, octets::first(bits, count))
+    let n = if text {
+        files::as_text(bits, count)
+    } else {
+        count
+    };
+    files::write(rt, octets::first(bits, n))
 }

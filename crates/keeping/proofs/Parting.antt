@@ -11,7 +11,7 @@ use Rattle.shelf.specs.Shelf.{count, tenant, profile}
 use Rattle.shelf.specs.Steps.Walking.{pair, PairsRise}
 use Rattle.shelf.specs.Steps.Finding.{Parted}
 use Rattle.shelf.proofs.WellFormed.{Formed, profile-small, pairs-rise}
-use Rattle.shelf.proofs.Finding.{entry-is_found, entry-none, has_it, has_not}
+use Rattle.shelf.proofs.Finding.{entry-is_found, entry-none, has_it}
 use Rattle.keeping.specs.Entries.{Entry, entry_at, entries_from, entries, below, keep, before, after}
 use Rattle.keeping.specs.Steps.Places.{Spotted}
 use Rattle.keeping.proofs.Pairs.{below-lower, lower-below, in_from, keep_append, keep_all, keep-none}
@@ -136,7 +136,7 @@ module _ (S : List ℕ) (octets : AreOctets S) (f : Formed S true) (t p : ℕ) (
         one = omega arith;
         low = before-is S octets f t p short k 0 h (omega (arith, h.inside)) (λ j a b. absurd (omega arith)) over;
         high = after_is S octets f t p short k 0 h (omega (arith, h.inside)) (λ j a b. absurd (omega arith)) over;
-        held = has_not S t p (count S) (entry-none S octets t p short k h up n) (omega arith);
+        held = entry-none S octets t p short k h up n;
       }
 
   pub spotted_one : k < count S → pair S k ≡ sought → Spotted S t p k 1

@@ -1,6 +1,8 @@
 -- How long the new shelf is, and the numbers of a change by its tests.
 use mathlib.Core.Path.{◌≡◌, refl, sym, ap, ap₂, ◌∙◌}
 use mathlib.Core.Bool.{Bool, true, false, cond, ◌||◌}
+use Rattle.std.specs.Prelude.{Result, Ok, Err}
+use Rattle.bits.specs.declared.number.Refusal.{Refusal}
 use mathlib.Core.List.{List, [], ◌∷◌, ◌++◌}
 use Prim.Native.Nat.{ℕ, zero, suc, ◌+◌, ◌-◌, ◌*◌, ◌≤◌, ◌<◌}
 use native.Mathlib.Nat.{add-zero}
@@ -207,23 +209,19 @@ module _ (S : List ℕ) (at gone m lent : ℕ) where
       by_value true = refl
       by_value false = refl
 
-  pub full_roomed : (c : Change) → c.number ≡ 26 → room_number S at gone m lent ≡ 26 → Roomed S at gone m lent c
-  full_roomed c e r = record { number = e ∙ sym r; place = λ z. absurd (omega (arith, e, z)) }
-
-  pub within_roomed : (c : Change) (n : ℕ) → n ≡ size_with S at gone m → count S + 1 - gone ≤ 64 → n ≤ 65535 → Within at gone n lent c → Roomed S at gone m lent c
+  pub within_roomed : (r : Result Change Refusal) (n : ℕ) → n ≡ size_with S at gone m → count S + 1 - gone ≤ 64 → n ≤ 65535 → Within at gone n lent r
+      → Roomed S at gone m lent r
   unfolding room_number
-  within_roomed c n e few short w =
-      let small : size_with S at gone m ≤ 65535 = omega (arith, e) in
-      record {
-        number = rw (le-ltb 64 (count S + 1 - gone) few, le-ltb 65535 (size_with S at gone m) small) (w.number ∙ ap (λ (k : ℕ). cond (ltb lent k) 11 0) e);
-        place = λ z. let q = w.place z in (q.0, q.1, q.2 ∙ e);
-      }
+  within_roomed (Ok c) n e few short w = (
+    rw (le-ltb 64 (count S + 1 - gone) few, le-ltb 65535 (size_with S at gone m) (omega arith), le-ltb lent (size_with S at gone m) (omega (arith, w.0))),
+    w.1,
+    w.2,
+    w.3 ∙ e,
+  )
+  within_roomed (Err x) n e few short w =
+      rw (le-ltb 64 (count S + 1 - gone) few, le-ltb 65535 (size_with S at gone m) (omega arith), lt-ltb lent (size_with S at gone m) (omega (arith, w.0))) w.1
 
 -- ---- a change by its number
-
--- where a number is a refusal, nothing is to be known
-pub refused_changes : (S : List ℕ) (t p : ℕ) (es : List Entry) (lent n : ℕ) (c : Change) → c.number ≡ n → (n ≡ 0 → ⊥) → Changes S t p es lent n c
-refused_changes S t p es lent n c e r = record { number = e; ready = λ z. absurd (r z) }
 
 ready-there : (S : List ℕ) (t p : ℕ) (es : List Entry) (lent at gone n at' gone' n' : ℕ) → Ready S t p at gone es n lent
     → (at' ≡ at) × (gone' ≡ gone) × (n' ≡ n) → Ready S t p at' gone' es n' lent
@@ -249,15 +247,13 @@ module _ (S : List ℕ) (t p at gone : ℕ) (formed : private_shelf S ≡ true) 
             room = ltb-false lent (size_with S at gone (length R)) y;
           }
 
-  pub put_changes : (R : List ℕ) (n : ℕ) (c : Change) → n ≡ room_number S at gone (length R) lent → Roomed S at gone (length R) lent c
-      → Changes S t p (entries_put S t p R) lent n c
-  put_changes R n c e r =
-      record {
-        number = r.number ∙ sym e;
-        ready = λ z.
-            ready-there S t p (entries_put S t p R) lent at gone (size_with S at gone (length R)) c.at c.gone c.size (put-ready R (sym e ∙ z))
-            (r.place (r.number ∙ sym e ∙ z));
-      }
+  pub put_changes : (R : List ℕ) (n : ℕ) (r : Result Change Refusal) → n ≡ room_number S at gone (length R) lent → Roomed S at gone (length R) lent r
+      → Changes S t p (entries_put S t p R) lent n r
+  put_changes R n (Ok c) e r = (
+    e ∙ r.0,
+    ready-there S t p (entries_put S t p R) lent at gone (size_with S at gone (length R)) c.spot.at c.spot.gone c.size (put-ready R r.0) (r.1, r.2, r.3),
+  )
+  put_changes R n (Err x) e r = r ∙ sym e
 
   left-ready : (n : ℕ) → n ≡ length (shelf_left S t p) → ltb lent n ≡ false → Ready S t p at gone (entries_left S t p) n lent
   left-ready n e b =
@@ -271,18 +267,13 @@ module _ (S : List ℕ) (t p at gone : ℕ) (formed : private_shelf S ≡ true) 
         room = ltb-false lent n b;
       }
 
-  pub left_changes : (m n : ℕ) (c : Change) → m ≡ length S - freed S at gone → n ≡ cond (ltb lent (length (shelf_left S t p))) 11 0 → Within at gone m lent c
-      → Changes S t p (entries_left S t p) lent n c
-  left_changes m n c d e w =
+  pub left_changes : (m n : ℕ) (r : Result Change Refusal) → m ≡ length S - freed S at gone → n ≡ cond (ltb lent (length (shelf_left S t p))) 11 0 → Within at gone m lent r
+      → Changes S t p (entries_left S t p) lent n r
+  left_changes m n (Ok c) d e w =
+      let long : m ≡ length (shelf_left S t p) = omega (arith, size-left S t p at gone formed s) in (
+        rw (le-ltb lent (length (shelf_left S t p)) (omega (arith, w.0))) at e,
+        ready-there S t p (entries_left S t p) lent at gone m c.spot.at c.spot.gone c.size (left-ready m long (le-ltb lent m w.0)) (w.1, w.2, w.3),
+      )
+  left_changes m n (Err x) d e w =
       let long : m ≡ length (shelf_left S t p) = omega (arith, size-left S t p at gone formed s) in
-      let same : c.number ≡ n = w.number ∙ ap (λ (k : ℕ). cond (ltb lent k) 11 0) long ∙ sym e in
-      record {
-        number = same;
-        ready = λ z. by_value (ltb lent m) refl long same z (sym w.number ∙ same ∙ z);
-      }
-    where
-      by_value : (b : Bool) → ltb lent m ≡ b → m ≡ length (shelf_left S t p) → c.number ≡ n → n ≡ 0 → ◌≡◌ {A = ℕ} (cond b 11 0) 0
-          → Ready S t p c.at c.gone (entries_left S t p) c.size lent
-      by_value true x long same z y = absurd (omega arith)
-      by_value false x long same z y =
-          ready-there S t p (entries_left S t p) lent at gone m c.at c.gone c.size (left-ready m long x) (w.place (same ∙ z))
+      w.1 ∙ sym (rw (lt-ltb lent (length (shelf_left S t p)) (omega (arith, w.0))) at e)

@@ -5,10 +5,10 @@ mod change;
 mod spot;
 mod write;
 
+ghost use Rattle.bits.specs.Refusals.{written};
 ghost use Rattle.keeping.specs.Promises.{RecordPut, RecordRemoved};
 
-use crate::spot::Spot;
-use bits::number::{DONE, Written};
+use bits::number::Refusal;
 
 // Puts a record of a tenant on its shelf, in the place of the one that has its pair.
 pub fn put_record(
@@ -17,45 +17,28 @@ pub fn put_record(
     profile: u16,
     octets: &[u8],
     out: &mut [u8],
-) -> Written
-    ensures { RecordPut private.now tenant profile octets.now out.old result out.new }
+) -> Result<usize, Refusal>
+    ensures { RecordPut private.now tenant profile octets.now out.old (written result) out.new }
 {
     let asked = tenant as usize;
     let kind = profile as usize;
-    let put = change::putting(private, asked, kind, octets, out.len());
-    let number = put.number;
-    if number != DONE {
-        return Written { number, count: 0 };
-    }
-    let spot = Spot {
-        at: put.at,
-        gone: put.gone,
-    };
-    write::with_record(private, spot, asked, kind, octets, out, put.size);
-    Written {
-        number,
-        count: put.size,
-    }
+    let put = change::putting(private, asked, kind, octets, out.len())?;
+    write::with_record(private, put.spot, asked, kind, octets, out, put.size);
+    Ok(put.size)
 }
 
 // Removes the record of a tenant from its shelf.
-pub fn remove_record(private: &[u8], tenant: u16, profile: u16, out: &mut [u8]) -> Written
-    ensures { RecordRemoved private.now tenant profile out.old result out.new }
+pub fn remove_record(
+    private: &[u8],
+    tenant: u16,
+    profile: u16,
+    out: &mut [u8],
+) -> Result<usize, Refusal>
+    ensures { RecordRemoved private.now tenant profile out.old (written result) out.new }
 {
     let asked = tenant as usize;
     let kind = profile as usize;
-    let left = change::removing(private, asked, kind, out.len());
-    let number = left.number;
-    if number != DONE {
-        return Written { number, count: 0 };
-    }
-    let spot = Spot {
-        at: left.at,
-        gone: left.gone,
-    };
-    write::without_record(private, spot, asked, kind, out, left.size);
-    Written {
-        number,
-        count: left.size,
-    }
+    let left = change::removing(private, asked, kind, out.len())?;
+    write::without_record(private, left.spot, asked, kind, out, left.size);
+    Ok(left.size)
 }

@@ -5,7 +5,8 @@ ghost use Rattle.keeping.specs.Steps.Places.{Spotted, freed};
 
 use shelf::inner::{entry, find};
 
-// `at` entries have a pair below the one that is asked for; `gone` is 1 where the next one has that pair, else 0.
+// `at` entries have a pair below the one that is asked for, and the `gone` behind them, 1 or none, have that pair: a count and no flag, since what stays begins
+// at at + gone and the new shelf has count + 1 - gone entries.
 #[derive(Clone, Copy)]
 pub struct Spot {
     pub at: usize,
@@ -18,13 +19,10 @@ pub fn of(private: &[u8], tenant: usize, profile: usize) -> Spot
 {
     let asked = tenant * 65536 + profile;
     let at = find::place_of(private, asked);
-    if at == entry::count(private) {
-        return Spot { at, gone: 0 };
+    if at < entry::count(private) && entry::pair(private, at) == asked {
+        return Spot { at, gone: 1 };
     }
-    if entry::pair(private, at) != asked {
-        return Spot { at, gone: 0 };
-    }
-    Spot { at, gone: 1 }
+    Spot { at, gone: 0 }
 }
 
 // The octets that the entry takes up, its head and its record.

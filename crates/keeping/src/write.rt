@@ -1,7 +1,7 @@
 // Writing the new shelf: its count, its heads, and its records, which are stretches of the old shelf and the record that is put.
 ghost use Rattle.std.specs.Prelude.{◌≡◌, true, ◌+◌, ◌-◌, ◌*◌, ◌<◌, ◌≤◌, length};
 ghost use Rattle.std.proofs.lemmas.List.Edits.{sets};
-ghost use Rattle.shelf.specs.Shelf.{count, tenant, profile, size, private_shelf, offset_due};
+ghost use Rattle.shelf.specs.Shelf.{count, tenant, profile, size, private_shelf};
 ghost use Rattle.keeping.specs.Entries.{entries_from, entries_put, entries_left, two_octets, head, heads, records, shelf_of};
 ghost use Rattle.keeping.specs.Steps.Places.{Ready};
 
@@ -41,11 +41,9 @@ fn put_heads(
 {
     let mut next = offset;
     let mut place = at;
-    let mut k = from;
-    while k < to {
+    for k in from..to {
         next = put_entry(private, k, out, place, next);
         place += 8;
-        k += 1;
     }
     next
 }
@@ -66,24 +64,13 @@ fn put_entry(private: &[u8], k: usize, out: &mut [u8], at: usize, offset: usize)
     offset + size
 }
 
-// "each next offset is the end of the record before": where the record of entry k begins, and behind the last where the shelf ends.
-fn due(private: &[u8], k: usize) -> usize
-    requires { (2 + 8 * count private.now ≤ length private.now) × (k ≤ count private.now) }
-    ensures { result ≡ offset_due private.now k }
-{
-    if k == 0 {
-        return 2 + 8 * entry::count(private);
-    }
-    entry::offset(private, k - 1) + entry::size(private, k - 1)
-}
-
 // The records of the entries from `from` to `to`, which stand one behind the other on the old shelf as well.
 fn put_records(private: &[u8], from: usize, to: usize, out: &mut [u8], at: usize)
     requires { (private_shelf private.now ≡ true) × (from ≤ to) × (to ≤ count private.now) × (at + length (records (entries_from private.now (to - from) from)) ≤ length out.old) }
     ensures { out.new ≡ sets out.old at (records (entries_from private.now (to - from) from)) }
 {
-    let start = due(private, from);
-    let end = due(private, to);
+    let start = entry::due(private, from);
+    let end = entry::due(private, to);
     bits::inner::lay(private, start, out, at, end - start);
 }
 

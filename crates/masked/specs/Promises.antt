@@ -1,13 +1,19 @@
 -- What the calls over single bits promise, for every width, every mask and all octets (document 02, CR 9). A `Sum` has a number and a value, `Written` a
 -- number and the count written, `Tested` a number and whether the test holds; out' is the output after the call.
-use Rattle.std.specs.Prelude.{◌≡◌, Bool, false, List, [], ◌∷◌, ◌++◌, ℕ, ◌+◌, ltb, length, drop}
+use Rattle.std.specs.Prelude.{◌≡◌, Bool, false, List, [], ◌∷◌, ◌++◌, ℕ, ◌+◌, Result, ltb, length, drop}
 use Rattle.bits.specs.Bits.{some_over}
 use Rattle.bits.specs.Numbers.{answered, when_done}
+use Rattle.bits.specs.Refusals.{number_of, value_or}
+use Rattle.bits.specs.declared.number.Refusal.{Refusal}
 use Rattle.bits.specs.declared.number.Written.{Written}
 use Rattle.checksum.specs.Masked.{checksum_under, attached_under, tests_under}
 use Rattle.checksum.specs.Promises.{generator, other_width, bits_number}
 use Rattle.checksum.specs.declared.Sum.{Sum}
 use Rattle.masked.specs.declared.Tested.{Tested}
+
+-- the answer of a test: its number, and whether the word was appended, no with a refusal
+abbrev pub tested : Result Bool Refusal → Tested
+tested answer = record { number = number_of answer; holds = value_or false answer }
 
 -- the sum; 8 and 12 as the checksum of bits answers them
 pub record SumUnder (w m : ℕ) (bits : List ℕ) (r : Sum) : Type 0 where

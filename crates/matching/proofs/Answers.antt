@@ -1,50 +1,16 @@
 -- What the call answers, by its tests.
 use mathlib.Core.Path.{◌≡◌, sym, ◌∙◌}
-use mathlib.Core.Bool.{Bool, true, false, not}
+use mathlib.Core.Bool.{Bool, false, not}
 use mathlib.Core.List.{List, [], ◌∷◌, ◌++◌}
-use Prim.Native.Nat.{ℕ, ◌≤◌, ◌<◌}
-use borrow.Author.Tests.{ltb-false, lt-ltb, le-ltb}
+use Prim.Native.Nat.{ℕ, ◌≤◌}
+use borrow.Author.Tests.{ltb-false}
 use lib.Dec.{ltb, lit<}
 use lib.ListN.{length, drop}
 use Rattle.bits.specs.Bits.{some_over}
-use Rattle.bits.specs.Numbers.{answered}
 use Rattle.bits.specs.Ranges.{within}
 use Rattle.bits.proofs.Answers.{passed, when-done, when_refused}
 use Rattle.matching.specs.Matching.{matched_from, misversioned}
 use Rattle.matching.specs.Promises.{unmatchable, match_number, RateMatched}
-
--- ---- the number, by the tests
-
-module _ (coded : List ℕ) (kind rv e lent : ℕ) where
-  pub answers_5 : within 1 2 kind ≡ false → 5 ≡ match_number coded kind rv e lent
-  unfolding match_number answered
-  answers_5 typed = rw typed
-
-  module _ (typed : within 1 2 kind ≡ true) where
-    pub answers-16 : misversioned kind rv ≡ true → 16 ≡ match_number coded kind rv e lent
-    unfolding match_number answered
-    answers-16 against = rw (typed, against)
-
-    module _ (versioned : misversioned kind rv ≡ false) where
-      pub answers-8 : unmatchable coded e ≡ true → 8 ≡ match_number coded kind rv e lent
-      unfolding match_number answered
-      answers-8 none = rw (typed, versioned, none)
-
-      module _ (some : unmatchable coded e ≡ false) where
-        pub answers-11 : lent < e → 11 ≡ match_number coded kind rv e lent
-        unfolding match_number answered
-        answers-11 short = rw (typed, versioned, some, lt-ltb lent e short)
-
-        module _ (room : e ≤ lent) where
-          pub answers-12 : some_over 2 coded ≡ true → 12 ≡ match_number coded kind rv e lent
-          unfolding match_number answered
-          answers-12 over = rw (typed, versioned, some, le-ltb lent e room, over)
-
-          pub answers-0 : some_over 2 coded ≡ false → 0 ≡ match_number coded kind rv e lent
-          unfolding match_number answered
-          answers-0 marks = rw (typed, versioned, some, le-ltb lent e room, marks)
-
--- ---- the answer
 
 module _ (coded : List ℕ) (kind rv e : ℕ) (out : List ℕ) where
   pub match_passed : match_number coded kind rv e (length out) ≡ 0

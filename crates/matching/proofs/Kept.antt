@@ -1,14 +1,13 @@
 -- The kept places of a coded block: of its parts, where none or all are marked, and a search for one.
-use mathlib.Core.Path.{◌≡◌, refl, ap, ◌∙◌}
-use mathlib.Core.Bool.{Bool, true, false, cond}
+use mathlib.Core.Path.{◌≡◌, refl, sym, ap}
+use mathlib.Core.Bool.{Bool, true, false, cond, ◌&&◌}
 use mathlib.Core.List.{List, [], ◌∷◌, ◌++◌}
-use Prim.Native.Nat.{ℕ, suc, ◌+◌, ◌≤◌, ◌<◌}
-use native.Mathlib.Numerals.{add-one}
+use Prim.Native.Nat.{ℕ, suc, ◌<◌}
 use native.Mathlib.Omega.{arith}
 use lib.Dec.{eqb}
-use lib.ListN.{length, get_or, drop, drop_of_length-le}
-use lib.Seq.{drop-cons}
+use lib.ListN.{length, get_or}
 use borrow.Author.Tests.{eq-eqb, ne_eqb}
+use Rattle.std.specs.List.{list_all}
 use Rattle.matching.specs.Matching.{kept}
 
 pub kept_append : (a b : List ℕ) → kept (a ++ b) ≡ kept a ++ kept b
@@ -31,23 +30,14 @@ unfolding kept
 all-marked [] h = refl
 all-marked (x ∷ l) h = rw (eq-eqb x 2 (h 0 (omega arith))) (all-marked l (λ k m. h (suc k) (omega arith)))
 
--- a marked place is passed over, any other is kept
-kept_skip : (s : List ℕ) (i : ℕ) → i < length s → get_or s i 0 ≡ 2 → kept (drop i s) ≡ kept (drop (i + 1) s)
-unfolding kept
-kept_skip s i h e = rw (add-one, drop-cons s i 0) (simp (eq-eqb _ _ e))
-
-kept_here : (s : List ℕ) (i : ℕ) → i < length s → (get_or s i 0 ≡ 2 → ⊥) → kept (drop i s) ≡ get_or s i 0 ∷ kept (drop (i + 1) s)
-unfolding kept
-kept_here s i h e = rw (add-one, drop-cons s i 0) (simp (ne_eqb _ _ e))
-
 -- ---- a search for a kept place
 
-pub none_turn : (s : List ℕ) (i : ℕ) → i < length s → get_or s i 0 ≡ 2 → eqb (length (kept (drop i s))) 0 ≡ eqb (length (kept (drop (i + 1) s))) 0
-none_turn s i h e = rw (kept_skip s i h e)
-
-pub none_found : (s : List ℕ) (i : ℕ) → i < length s → (get_or s i 0 ≡ 2 → ⊥) → eqb (length (kept (drop i s))) 0 ≡ false
-none_found s i h n = ap (λ (l : List ℕ). eqb (length l) 0) (kept_here s i h n) ∙ ne_eqb (suc (length (kept (drop (i + 1) s)))) 0 (λ z. omega arith)
-
-pub none_end : (s : List ℕ) (i : ℕ) → length s ≤ i → eqb (length (kept (drop i s))) 0 ≡ true
+pub none-kept : (s : List ℕ) → list_all (λ x. eqb x 2) s ≡ eqb (length (kept s)) 0
 unfolding kept
-none_end s i h = rw (drop_of_length-le s h)
+none-kept [] = refl
+none-kept (x ∷ s) = by-mark (eqb x 2) (none-kept s)
+  where
+    by-mark : (t : Bool) → list_all (λ x. eqb x 2) s ≡ eqb (length (kept s)) 0
+        → (t && list_all (λ x. eqb x 2) s) ≡ eqb (length (cond t (kept s) (x ∷ kept s))) 0
+    by-mark true e = e
+    by-mark false e = sym (ne_eqb (suc (length (kept s))) 0 (λ z. omega arith))

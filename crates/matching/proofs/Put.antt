@@ -7,16 +7,14 @@ use native.Mathlib.Nat.{zero-add, add-zero, mod-eq_of_lt, mod-lt}
 use native.Mathlib.Numerals.{add-one}
 use native.Mathlib.Omega.{arith}
 use lib.ListN.{length, get_or, take, drop, set, length-append, length-drop, length-set, get_or-append}
-use lib.Seq.{get_or-append-add, get_or-drop, get_or-take, get_or-set_same, get_or-set_other, take-suc, take_all}
+use lib.Seq.{get_or-append-add, get_or-set_same, get_or-set_other, take-suc, take_all}
 use lib.Dec.{eqb, ltb}
 use borrow.Author.Tests.{eq-eqb, ne_eqb, eqb-false, lt-ltb}
-use Rattle.bits.specs.Steps.Places.{Laid}
 use Rattle.bits.proofs.Listed.{written}
-use Rattle.bits.proofs.Lists.{length_part}
 use Rattle.bits.proofs.Ranges.{below_or, equal_or, neither}
 use Rattle.matching.specs.Matching.{kept, matched, turned}
 use Rattle.matching.specs.Promises.{unmatchable}
-use Rattle.matching.specs.Steps.Places.{Repeated, Filled, stretch, least, Put}
+use Rattle.matching.specs.Steps.Places.{Repeated, Filled, least, Put}
 use Rattle.matching.proofs.Kept.{kept_append}
 use Rattle.matching.proofs.Runs.{kept-length}
 use Rattle.matching.proofs.Turned.{turned-length, kept-turned, kept_runs}
@@ -80,45 +78,6 @@ put_more {p} {a} {b} {at} {e} {k} q {r} {c} g d =
 pub put_is : {p q a b : List ℕ} {at e k : ℕ} → p ≡ q → Put p a at e k b → Put q a at e k b
 put_is {a = a} {b} {at} {e} {k} h g = subst (λ (x : List ℕ). Put x a at e k b) h g
 
--- ---- a stretch of another list, all of it or as much as fits
-
-stretch-length : (s : List ℕ) (from n : ℕ) → from + n ≤ length s → length (stretch s from n) ≡ n
-unfolding stretch
-stretch-length s from n h = length_part n from s h
-
-stretch-at : (s : List ℕ) (from n k : ℕ) → k < n → get_or (stretch s from n) k 0 ≡ get_or s (from + k) 0
-unfolding stretch
-stretch-at s from n k h = get_or-take n (drop from s) k 0 h ∙ get_or-drop from s k 0
-
-module _ (s : List ℕ) (from n : ℕ) (long : from + n ≤ length s) where
-  pub laid-all : {a b : List ℕ} {at e : ℕ} → at + n ≤ e → Laid s from n a at b → Put (stretch s from n) a at e (at + n) b
-  laid-all h l =
-      let size = stretch-length s from n long in
-      record {
-        len = l.len;
-        low = omega arith;
-        most = h;
-        count = omega arith;
-        full = λ o. omega arith;
-        inside = λ k o. l.inside k (omega arith) ∙ sym (stretch-at s from n k (omega arith));
-        below = l.below;
-        above = l.above;
-      }
-
-  pub laid-some : {a b : List ℕ} {at e : ℕ} → at ≤ e → e - at ≤ n → Laid s from (e - at) a at b → Put (stretch s from n) a at e e b
-  laid-some h m l =
-      let size = stretch-length s from n long in
-      record {
-        len = l.len;
-        low = h;
-        most = omega arith;
-        count = omega arith;
-        full = λ o. absurd (omega arith);
-        inside = λ k o. l.inside k (omega arith) ∙ sym (stretch-at s from n k (omega arith));
-        below = l.below;
-        above = λ p o. l.above p (omega arith);
-      }
-
 -- ---- one octet, where it is kept and there is room
 
 module _ (x : ℕ) (a : List ℕ) (at e : ℕ) where
@@ -145,27 +104,18 @@ module _ (x : ℕ) (a : List ℕ) (at e : ℕ) where
       first zero o = ap (λ (j : ℕ). get_or (set a at x) j 0) (add-zero at) ∙ get_or-set_same a at x 0 (omega arith)
       first (suc k) o = absurd (omega arith)
 
--- a place more of a stretch
-pub kept_turn : (s : List ℕ) (from i : ℕ) → from + i < length s
-    → kept (stretch s from i) ++ kept (get_or s (from + i) 0 ∷ []) ≡ kept (stretch s from (i + 1))
-unfolding stretch
-kept_turn s from i h =
-    let more : i < length (drop from s) = omega (arith, length-drop from s) in
-    sym (kept_append (take i (drop from s)) (get_or s (from + i) 0 ∷ []))
-    ∙ ap (λ (x : ℕ). kept (take i (drop from s) ++ x ∷ [])) (sym (get_or-drop from s i 0))
-    ∙ ap kept (sym (take-suc (drop from s) i 0 more) ∙ ap (λ (j : ℕ). take j (drop from s)) (sym (add-one i)))
-
-pub kept-none : (s a : List ℕ) (from at e : ℕ) → at ≤ e → Put (kept (stretch s from 0)) a at e at a
-unfolding stretch kept
-kept-none s a from at e h = put_none a at e h
+-- a place more of a run
+pub kept_turn : (s : List ℕ) (i : ℕ) → i < length s → kept (take i s) ++ kept (get_or s i 0 ∷ []) ≡ kept (take (i + 1) s)
+kept_turn s i h =
+    sym (kept_append (take i s) (get_or s i 0 ∷ [])) ∙ ap kept (sym (take-suc s i 0 h) ∙ ap (λ (j : ℕ). take j s) (sym (add-one i)))
 
 -- behind the start and before it, marks anywhere
-pub put_halves : (s : List ℕ) (start : ℕ) → start ≤ length s → {a b c : List ℕ} {e i k : ℕ} → Put (kept (stretch s start (length s - start))) a 0 e i b
-    → Put (kept (stretch s 0 start)) b i e k c → Put (kept (turned start s)) a 0 e k c
-unfolding stretch turned
+pub put_halves : (s : List ℕ) (start : ℕ) → start ≤ length s → {a b c : List ℕ} {e i k : ℕ} → Put (kept (take (length s - start) (drop start s))) a 0 e i b
+    → Put (kept (take start s)) b i e k c → Put (kept (turned start s)) a 0 e k c
+unfolding turned
 put_halves s start h one two =
     put_is
-    (ap (λ (l : List ℕ). kept l ++ kept (take start s)) (take_all (length s - start) (drop start s) (omega (arith, length-drop start s)))
+    (ap (λ (x : List ℕ). kept x ++ kept (take start s)) (take_all (length s - start) (drop start s) (omega (arith, length-drop start s)))
     ∙ sym (kept_append (drop start s) (take start s)))
     (put_more _ one two)
 
@@ -211,8 +161,8 @@ filled-some s own places f h = omega (arith, kept-length s own places f)
 -- ---- the four runs of a block from a start
 
 module _ (s : List ℕ) (own places start : ℕ) (f : Filled s own places) where
-  pub lined_up : start ≤ length s → (low mid : ℕ) → low ≡ least own start → mid ≡ least places start → {a b c d g : List ℕ} {e i j k r : ℕ} → Put (stretch s low (own - low)) a 0 e i b
-      → Put (stretch s (start + (places - mid)) (length s - (start + (places - mid)))) b i e j c → Put (stretch s 0 low) c j e k d → Put (stretch s mid (start - mid)) d k e r g
+  pub lined_up : start ≤ length s → (low mid : ℕ) → low ≡ least own start → mid ≡ least places start → {a b c d g : List ℕ} {e i j k r : ℕ} → Put (take (own - low) (drop low s)) a 0 e i b
+      → Put (take (length s - (start + (places - mid))) (drop (start + (places - mid)) s)) b i e j c → Put (take low s) c j e k d → Put (take (start - mid) (drop mid s)) d k e r g
       → Put (kept (turned start s)) a 0 e r g
   lined_up within low mid p q one two three four =
       put_is (rw (p, q) (sym (kept_runs s own places start f within))) (put_more _ (put_more _ (put_more _ one two) three) four)

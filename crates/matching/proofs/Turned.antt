@@ -7,7 +7,7 @@ use lib.ListN.{length, take, drop, length-append, length-drop, take-append-drop}
 use lib.Seq.{get_or-drop, get_or-take, length-take-le, drop-drop, take-take, take-add, take_all, take_at, drop_at}
 use Rattle.bits.proofs.Ranges.{below_or}
 use Rattle.matching.specs.Matching.{kept, turned}
-use Rattle.matching.specs.Steps.Places.{Filled, stretch, least, kept_before}
+use Rattle.matching.specs.Steps.Places.{Filled, least, kept_before}
 use Rattle.matching.proofs.Kept.{kept_append}
 use Rattle.matching.proofs.Runs.{kept-is, kept-length}
 
@@ -95,8 +95,7 @@ module _ (s : List ℕ) (own places start : ℕ) (f : Filled s own places) (in_b
   abbrev from : ℕ
   from = start + (places - mid)
 
-  first_run : take (own - start) (drop start s) ≡ stretch s lo (own - lo)
-  unfolding stretch
+  first_run : take (own - start) (drop start s) ≡ take (own - lo) (drop lo s)
   first_run =
       below_or start own
       (λ h.
@@ -108,20 +107,17 @@ module _ (s : List ℕ) (own places start : ℕ) (f : Filled s own places) (in_b
       let b : own - (own - (own - start)) ≡ 0 = omega arith in
       ap (λ (n : ℕ). take n (drop start s)) a ∙ sym (ap (λ (n : ℕ). take n (drop (own - (own - start)) s)) b))
 
-  second_run : drop (places - start) (drop start s) ≡ stretch s from (length s - from)
-  unfolding stretch
+  second_run : drop (places - start) (drop start s) ≡ take (length s - from) (drop from s)
   second_run =
       let e : start + (places - start) ≡ start + (places - (places - (places - start))) = omega arith in
       let at : ℕ = start + (places - (places - (places - start))) in
       drop-drop (places - start) start s ∙ ap (λ (n : ℕ). drop n s) e
       ∙ sym (take_all (length s - at) (drop at s) (omega (arith, length-drop at s)))
 
-  third-run : take lo (take start s) ≡ stretch s 0 lo
-  unfolding stretch
+  third-run : take lo (take start s) ≡ take lo s
   third-run = take-take (own - (own - start)) start s (omega arith)
 
-  fourth-run : drop mid (take start s) ≡ stretch s mid (start - mid)
-  unfolding stretch
+  fourth-run : drop mid (take start s) ≡ take (start - mid) (drop mid s)
   fourth-run =
       let m : ℕ = places - (places - start) in
       let e : start ≡ m + (start - m) = omega arith in
@@ -129,12 +125,12 @@ module _ (s : List ℕ) (own places start : ℕ) (f : Filled s own places) (in_b
       ∙ drop_at (take m s) (take (start - m) (drop m s)) m (length-take-le m s (omega arith))
 
   pub kept_runs : kept (turned start s)
-      ≡ ((stretch s (least own start) (own - least own start) ++ stretch s (start + (places - least places start)) (length s - (start + (places - least places start))))
-      ++ stretch s 0 (least own start)) ++ stretch s (least places start) (start - least places start)
+      ≡ ((take (own - least own start) (drop (least own start) s) ++ take (length s - (start + (places - least places start))) (drop (start + (places - least places start)) s))
+      ++ take (least own start) s) ++ take (start - least places start) (drop (least places start) s)
   unfolding turned
   kept_runs =
       kept_append (drop start s) (take start s)
       ∙ ap₂ (λ (x y : List ℕ). x ++ y)
       (kept-is (drop start s) (own - start) (places - start) filled-drop ∙ ap₂ (λ (x y : List ℕ). x ++ y) first_run second_run)
       (kept-is (take start s) lo mid filled-take ∙ ap₂ (λ (x y : List ℕ). x ++ y) third-run fourth-run)
-      ∙ sym (append_assoc (stretch s lo (own - lo) ++ stretch s from (length s - from)) (stretch s 0 lo) (stretch s mid (start - mid)))
+      ∙ sym (append_assoc (take (own - lo) (drop lo s) ++ take (length s - from) (drop from s)) (take lo s) (take (start - mid) (drop mid s)))

@@ -6,34 +6,26 @@ ghost use Rattle.matching.specs.Steps.Places.{Filled};
 ghost use Rattle.matching.specs.Steps.Copies.{copies_agree};
 ghost use Rattle.matching.specs.Steps.Line.{heard};
 
-use crate::line::{least, line_up, past};
+use crate::line::line_up;
 use crate::marks::repeat;
 use bits::count::CodedBits;
 use bits::inner::{lay, mark};
 
-// Whether the redundancy version is over 3, or is not 0 with Type 1.
+// Whether the redundancy version is over 3, or is not 0 with Type 1. A type is a number here: C lends any, and those that there are not have a refusal.
+#[tactic(auto, unfolding(crate::specs::Matching::misversioned))]
 pub fn is_misversioned(kind: usize, rv: usize) -> bool
     ensures { result ≡ misversioned kind rv }
 {
-    if 3 < rv {
-        return true;
-    }
-    if kind != 1 {
-        return false;
-    }
-    0 < rv
+    rv > 3 || (kind == 1 && rv > 0)
 }
 
 // The place from which a coded block of d places is sent. It is a place of the block or its end.
+#[tactic(auto, unfolding(crate::specs::Matching::start_of))]
 pub fn start_of(kind: usize, rv: usize, d: usize) -> usize
     requires { rv ≤ 3 }
     ensures { (result ≡ start_of kind rv d) × (result ≤ d) }
 {
-    if kind == 2 {
-        let start = d / 4 * rv;
-        return start;
-    }
-    0
+    if kind == 2 { d / 4 * rv } else { 0 }
 }
 
 // The e bits of a coded block whose filler lies from `own` to `places`, from the place `start` on: its runs, and then their repetition.
@@ -61,10 +53,8 @@ pub fn copies_agree(s: &[u8], n: CodedBits) -> bool
 {
     let first = n.0;
     let mut agree = true;
-    let mut k = first;
-    while k < s.len() {
-        agree = agree & (s[k] == s[k - first]);
-        k += 1;
+    for k in first..s.len() {
+        agree &= s[k] == s[k - first];
     }
     agree
 }
@@ -75,8 +65,8 @@ pub fn gather(s: &[u8], own: usize, places: usize, start: usize, word: &mut [u8]
     requires { (own ≤ places) × (places ≤ length word.old) × (start ≤ length word.old) × (own + (length word.old - places) ≤ length s.now) }
     ensures { word.new ≡ with_filler places (take own (heard own places start (length word.old) s.now)) ++ take (length word.old - places) (drop own (heard own places start (length word.old) s.now)) }
 {
-    let low = least(own, start);
-    let high = past(places, start);
+    let low = own.min(start);
+    let high = start.saturating_sub(places);
     let rest = word.len() - places;
     let before = low + high;
     let turn = own + rest - before;

@@ -5,20 +5,24 @@ pub mod inner;
 mod line;
 mod marks;
 
+ghost use Rattle.bits.specs.Refusals.{written};
 ghost use Rattle.matching.specs.Promises.{RateMatched};
 
 use bits::count::CodedBits;
-use bits::number::{DONE, Written};
+use bits::number::Refusal;
 
-// Rate-matches one coded block, whose marks may stand anywhere, to e bits, from the start of its type and redundancy version.
-pub fn rate_match(coded: &[u8], kind: usize, rv: usize, e: CodedBits, out: &mut [u8]) -> Written
-    ensures { RateMatched coded.now kind rv e.0 out.old result out.new }
+// Rate-matches one coded block, whose marks may stand anywhere, to e bits, from the start of its type and redundancy version, and answers how many it wrote.
+pub fn rate_match(
+    coded: &[u8],
+    kind: usize,
+    rv: usize,
+    e: CodedBits,
+    out: &mut [u8],
+) -> Result<usize, Refusal>
+    ensures { RateMatched coded.now kind rv e.0 out.old (written result) out.new }
 {
-    let number = marks::match_number(coded, kind, rv, e, out.len());
-    if number != DONE {
-        return Written { number, count: 0 };
-    }
+    marks::admit_match(coded, kind, rv, e, out.len())?;
     let start = inner::start_of(kind, rv, coded.len());
     marks::fill(coded, start, e, out);
-    Written { number, count: e.0 }
+    Ok(e.0)
 }

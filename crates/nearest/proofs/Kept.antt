@@ -1,10 +1,10 @@
 -- The better of two words is kept.
 use mathlib.Core.Path.{◌≡◌, refl, sym, ap, ◌∙◌}
-use mathlib.Core.Bool.{Bool, true, false, true≢false}
+use mathlib.Core.Bool.{Bool, true, false}
 use mathlib.Core.List.{List, ◌++◌}
 use Prim.Native.Nat.{ℕ, ◌/◌, ◌%◌, ◌≤◌, ◌<◌}
 use native.Mathlib.Omega.{arith}
-use borrow.Author.Tests.{lt-ltb, le-ltb, eq-eqb, ne_eqb}
+use borrow.Author.Tests.{le-ltb, eq-eqb}
 use lib.Dec.{ltb}
 use lib.ListN.{length, get_or, take, drop, set, take-append-drop}
 use lib.Seq.{take_at, drop_at}
@@ -17,24 +17,9 @@ use Rattle.nearest.proofs.Best.{length-goal, bits-goal, best_one, best-new, best
 -- ---- which is better
 
 module _ (v : ℕ) (w : List ℕ) (v' : ℕ) (w' : List ℕ) where
-  pub beats-less : v' < v → beats v w v' w' ≡ true
-  unfolding beats
-  beats-less h = rw (lt-ltb v' v h)
-
-  pub beats_more : v ≤ v' → (v' ≡ v → ⊥) → beats v w v' w' ≡ false
-  unfolding beats
-  beats_more h n = rw (le-ltb v' v h, ne_eqb v' v n)
-
   pub beats-same : v' ≡ v → beats v w v' w' ≡ ltb (value_of w') (value_of w)
   unfolding beats
   beats-same e = let h : v ≤ v' = omega arith in rw (le-ltb v' v h, eq-eqb v' v e)
-
-module _ (D best : ℕ) (out : List ℕ) (v : ℕ) (word : List ℕ) where
-  pub kept_new : (out' : List ℕ) → beats best (take D out) v (take D word) ≡ true → out' ≡ take D word ++ drop D out → Kept D best out v word v out'
-  kept_new out' t e = record { new = λ _. (refl, e); old = λ n. absurd (true≢false (sym t ∙ n)) }
-
-  pub kept-old : beats best (take D out) v (take D word) ≡ false → Kept D best out v word best out
-  kept-old t = record { new = λ n. absurd (true≢false (sym n ∙ t)); old = λ _. (refl, refl) }
 
 -- ---- the loop over the goals
 

@@ -2,13 +2,14 @@
 use mathlib.Core.Path.{◌≡◌, refl, sym, ap, ◌∙◌, subst}
 use mathlib.Core.Bool.{Bool, true, false, cond}
 use mathlib.Core.List.{List, [], ◌∷◌}
-use Prim.Native.Nat.{ℕ, zero, suc, ◌+◌, ◌*◌, ◌/◌, ◌≤◌, ◌<◌}
+use Prim.Native.Nat.{ℕ, zero, suc, ◌+◌, ◌*◌, ◌/◌, ◌≤◌, ◌<◌, min}
 use native.Mathlib.Nat.{le_refl}
 use native.Mathlib.Omega.{arith}
-use borrow.Author.Tests.{ltb-true, ltb-false}
+use borrow.Author.Tests.{ltb-true, ltb-false, lt-ltb, le-ltb}
 use lib.Dec.{ltb, lit<}
 use lib.ListN.{length, get_or, get_or-replicate}
 use Rattle.bits.specs.Bits.{AreBits, read_on}
+use Rattle.bits.proofs.Ranges.{below_or}
 use Rattle.nearest.specs.Steps.Trellis.{end_open, charge, way, lower, choice, least, walk}
 use Rattle.nearest.specs.Steps.Rows.{AtMost}
 
@@ -23,6 +24,10 @@ read_less (a ∷ p) (b ∷ q) x y e hp hq l =
     read_less p q (x * 2 + a) (y * 2 + b) (omega arith) (λ k. hp (suc k)) (λ k. hq (suc k)) (omega arith)
 
 -- ---- the lower of two
+
+pub lower-min : (a b : ℕ) → min a b ≡ lower a b
+unfolding lower
+lower-min a b = below_or b a (λ l. rw (lt-ltb b a l) (omega arith)) (λ l. rw (le-ltb b a l) (omega arith))
 
 pub lower-left : (a b : ℕ) → lower a b ≤ a
 unfolding lower

@@ -4,7 +4,7 @@ ghost use Rattle.std.specs.Int.Bits.{bit_xor};
 ghost use Rattle.std.specs.Int.Count.{ones};
 ghost use Rattle.bits.specs.Bits.{AreBits};
 ghost use Rattle.nearest.specs.Steps.Trellis.{three_of, heard_at, price};
-ghost use Rattle.nearest.specs.Steps.Rows.{Placed, Evens, Prices, Heard};
+ghost use Rattle.nearest.specs.Steps.Rows.{Evens, Priced, Prices, Heard};
 
 use control::inner::output;
 
@@ -19,7 +19,7 @@ fn three(r: u32) -> u8
 fn apart(x: u8, y: u8) -> u16
     ensures { result ≡ ones (bit_xor x y) }
 {
-    u8::count_ones(x ^ y) as u16
+    (x ^ y).count_ones() as u16
 }
 
 // The outputs of the even registers below 64.
@@ -27,39 +27,33 @@ fn evens() -> [u8; 32]
     ensures { Evens 32 result }
 {
     let mut t = [0u8; 32];
-    let mut j = 0;
-    while j < 32 {
-        t[j] = three((2 * j) as u32);
-        j += 1;
+    for j in 0..32 {
+        t[j] = three(2 * j as u32);
     }
     t
 }
 
-// Writes what the even registers below 64 cost where h is heard.
-fn put_prices(t: &mut [u16], h: usize, evens: &[u8; 32])
-    requires { (h < 8) × (length t.old ≡ 256) × Evens 32 evens.now }
-    ensures { Placed 32 (λ j. price h (2 * j)) t.old (h * 32) t.new }
+// What the even registers below 64 cost where h is heard.
+fn prices_at(h: u8, evens: &[u8; 32]) -> [u16; 32]
+    requires { (h < 8) × Evens 32 evens.now }
+    ensures { Priced h 32 result }
 {
-    let at = h * 32;
-    let x = h as u8;
-    let mut j = 0;
-    while j < 32 {
-        t[at + j] = apart(evens[j], x);
-        j += 1;
+    let mut t = [0u16; 32];
+    for j in 0..32 {
+        t[j] = apart(evens[j], h);
     }
+    t
 }
 
 // What the even registers below 64 cost, for each of the eight that can be heard, made once for all steps. Every generator has its first and its last tap, so
 // another newest or oldest bit turns all three outputs round, and the other registers need no places.
-pub fn prices() -> [u16; 256]
+pub fn prices() -> [[u16; 32]; 8]
     ensures { Prices 8 result }
 {
     let evens = evens();
-    let mut t = [0u16; 256];
-    let mut h = 0;
-    while h < 8 {
-        put_prices(&mut t, h, &evens);
-        h += 1;
+    let mut t = [[0u16; 32]; 8];
+    for h in 0..8 {
+        t[h] = prices_at(h as u8, &evens);
     }
     t
 }
@@ -86,22 +80,17 @@ pub fn steps(d: usize, heard: &[u8]) -> [u8; 128]
     ensures { Heard d heard.now d result }
 {
     let mut t = [0u8; 128];
-    let mut k = 0;
-    while k < d {
+    for k in 0..d {
         t[k] = heard_at(d, heard, k);
-        k += 1;
     }
     t
 }
 
 // What the bit 0 costs from the state s on where h is heard. The bit 1 costs the rest of three.
-pub fn zero_price(prices: &[u16; 256], h: u8, s: usize) -> u16
+pub fn zero_price(prices: &[[u16; 32]; 8], h: u8, s: usize) -> u16
     requires { (h < 8) × (s < 64) × Prices 8 prices.now }
     ensures { (result ≡ price h s) × (result ≤ 3) }
 {
-    let x = prices[(h as usize) * 32 + s / 2];
-    if s % 2 == 0 {
-        return x;
-    }
-    3 - x
+    let x = prices[usize::from(h)][s / 2];
+    if s % 2 == 0 { x } else { 3 - x }
 }

@@ -6,8 +6,7 @@ ghost use Rattle.std.specs.Prelude.{◌≤◌, IfOk, length};
 use std::io::{Error, Read};
 use text::faults::Fault;
 use text::forms::WORDS;
-use text::octets::find;
-use text::{forms, words};
+use text::{forms, options, words};
 
 fn main(rt: HostRuntime) -> Result<(), Error> {
     let mut buffer = io::large_buffer();
@@ -17,8 +16,7 @@ fn main(rt: HostRuntime) -> Result<(), Error> {
         b"bare A
 recv A BITS rv=0 by=quick|plain
 plan A ed=1
-flag by=quick|plain
-",
+flag by=quick|plain",
         &buffer[..n],
     )
 }
@@ -38,38 +36,43 @@ fn read_full(from: &mut impl Read, room: &mut [u8]) -> Result<usize, Error>
     Ok(done)
 }
 
-fn read_lines(rt: &impl Print, list: &[u8], lines: &[u8]) -> Result<(), Error> {
-    let mut at = 0;
-    while at < lines.len() {
-        let end = find(lines, at, b'\n');
-        read_line(rt, list, &lines[at..end])?;
-        at = end + 1;
+fn read_lines(rt: &impl Print, forms: &[u8], lines: &[u8]) -> Result<(), Error> {
+    for line in lines.split_inclusive(|x| *x == b'\n') {
+        read_line(rt, forms, line.strip_suffix(b"\n").unwrap_or(line))?;
     }
     Ok(())
 }
 
-fn read_line(rt: &impl Print, list: &[u8], line: &[u8]) -> Result<(), Error> {
+fn read_line(rt: &impl Print, forms: &[u8], line: &[u8]) -> Result<(), Error> {
     rt.write_all(line)?;
     rt.write_all(b" ->")?;
-    let found = words::entry(list, b'\n', b' ', words::before(line, b' '));
-    let from = found.from;
-    let end = found.end;
-    if from == end {
-        return print_fault(rt, Fault::Request);
+    let name = words::before(line, b' ');
+    match forms
+        .split(|x| *x == b'\n')
+        .find(|form| words::before(form, b' ') == name)
+    {
+        Some(form) => read_form(rt, form, line),
+        None => print_fault(rt, Fault::Request),
     }
-    read_form(rt, &list[from..end], line)
 }
 
 fn read_form(rt: &impl Print, form: &[u8], line: &[u8]) -> Result<(), Error> {
     let mut numbers = [0usize; WORDS];
     let mut records = [0u8; 2];
     let mut bits = [0u8; 8];
-    let given = forms::read(form, line, &mut numbers, &mut records, &mut bits, 0);
-    if given.bad {
-        let why = given.why;
-        return print_fault(rt, why);
+    let (words, optional) = form.split_at(options::start(form));
+    match forms::read(
+        words,
+        optional,
+        line,
+        &mut numbers,
+        &mut records,
+        &mut bits,
+        0,
+    ) {
+        Ok(_) => print_numbers(rt, &numbers, words::count(form).unwrap_or(0)),
+        Err(why) => print_fault(rt, why),
     }
-    print_numbers(rt, &numbers, words::count(form))
 }
 
 fn print_fault(rt: &impl Print, why: Fault) -> Result<(), Error> {
@@ -86,13 +89,8 @@ fn print_fault(rt: &impl Print, why: Fault) -> Result<(), Error> {
 
 // What each word of the form holds, but for the first, which names the request.
 fn print_numbers(rt: &impl Print, numbers: &[usize], count: usize) -> Result<(), Error> {
-    let mut k = 1;
-    while k < count {
-        if k < numbers.len() {
-            let number = numbers[k];
-            print!(rt; " {number}")?;
-        }
-        k += 1;
+    for number in numbers.iter().take(count).skip(1) {
+        print!(rt; " {number}")?;
     }
     rt.write_all(b"\n")
 }

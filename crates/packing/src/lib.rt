@@ -1,7 +1,6 @@
 // Packing: from the text that people write a shelf in to the shelf, and back.
 #![tactic(auto)]
 
-mod counts;
 mod fault;
 mod heads;
 mod line;

@@ -1,12 +1,8 @@
 // A line of a shelf's text: its words, and where they stand.
-ghost use Rattle.std.specs.Prelude.{◌≤◌, length};
+use console::parts;
+use text::values;
 
-use crate::counts::sum;
-use console::{list, parts};
-use text::values::Parsed;
-use text::{octets, values};
-
-// Where a word begins, and how many characters it has: none at the end of the line.
+// Where a word begins, and how many characters it has: none at the end of the line, where a word may be missing.
 #[derive(Clone, Copy)]
 pub struct Span {
     pub from: usize,
@@ -14,55 +10,35 @@ pub struct Span {
 }
 
 fn is_space(character: u8) -> bool {
-    list::has(b" \n\t\n\r\n", &[character])
-}
-
-// Whether a character is a space, or is none.
-fn is_of(space: bool, character: u8) -> bool {
-    if space {
-        return is_space(character);
-    }
-    !is_space(character)
-}
-
-// The first place from `from` on behind the spaces, or behind what is none.
-fn pass(space: bool, line: &[u8], from: usize) -> usize
-    requires { from ≤ length line.now }
-    ensures { (from ≤ result) × (result ≤ length line.now) }
-{
-    let mut i = from;
-    while i < line.len() {
-        if !is_of(space, line[i]) {
-            return i;
-        }
-        i += 1;
-    }
-    i
+    matches!(character, b' ' | b'\t' | b'\r')
 }
 
 // The next word from a place on.
 pub fn next(line: &[u8], at: usize) -> Span {
-    let start = octets::least(at, line.len());
-    let from = pass(true, line, start);
-    let end = pass(false, line, from);
+    let start = at.min(line.len());
+    let rest = &line[start..];
+    let spaces = rest
+        .iter()
+        .position(|c| !is_space(*c))
+        .unwrap_or(rest.len());
+    let word = &rest[spaces..];
+    let size = word.iter().position(|c| is_space(*c)).unwrap_or(word.len());
     Span {
-        from,
-        size: end - from,
+        from: start + spaces,
+        size,
     }
 }
 
 // The place behind a word.
 pub fn behind(span: Span) -> usize {
-    sum(span.from, span.size)
+    span.from.saturating_add(span.size)
 }
 
 // Word k, counted from 0.
 pub fn nth(line: &[u8], k: usize) -> Span {
     let mut span = next(line, 0);
-    let mut left = k;
-    while left > 0 {
+    for _ in 0..k {
         span = next(line, behind(span));
-        left -= 1;
     }
     span
 }
@@ -73,17 +49,14 @@ pub fn word(line: &[u8], span: Span) -> &[u8] {
 }
 
 pub fn is(line: &[u8], k: usize, what: &[u8]) -> bool {
-    octets::same(word(line, nth(line, k)), what)
+    word(line, nth(line, k)) == what
 }
 
 pub fn is_blank(line: &[u8]) -> bool {
     next(line, 0).size == 0
 }
 
-// The number that a word holds, or one that is over all that is asked for where it holds none.
-pub fn number(line: &[u8], span: Span) -> usize {
-    match values::number(word(line, span)) {
-        Parsed::Value(n) => n,
-        Parsed::Bad(_) => usize::MAX,
-    }
+// The number that a word holds.
+pub fn number(line: &[u8], span: Span) -> Option<usize> {
+    values::number(word(line, span)).ok()
 }

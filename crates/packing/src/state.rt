@@ -1,27 +1,27 @@
 // How far the reading of a shelf's text has come.
-use crate::counts::more;
-use crate::fault;
-use crate::fault::Fault;
+use crate::fault::{Expected, Fault, Misjudged};
+use bits::number::Refusal;
+use reasons::side::Side;
 
-// No record is begun, or the last one is whole.
-pub const BETWEEN: usize = 0;
-
-// A record is begun, and each of its tables that is begun is whole.
-pub const TABLES: usize = 1;
-
-// A table is begun.
-pub const ROWS: usize = 2;
-
-// Octets of a refused record are due.
-pub const OCTETS: usize = 3;
+#[derive(Clone, Copy)]
+pub enum Phase {
+    // No record is begun, or the last one is whole.
+    Between,
+    // A record is begun, and each of its tables that is begun is whole.
+    Tables,
+    // A table is begun.
+    Rows,
+    // A refused record is begun, with its refusal; its octets are due.
+    Octets(Refusal),
+}
 
 #[derive(Clone, Copy)]
 pub struct State {
-    pub private: bool,
+    pub side: Side,
     // The line, counted from 1, and the one that the record begins with.
     pub line: usize,
     pub head: usize,
-    pub phase: usize,
+    pub phase: Phase,
     // Whole records, and the octets that they fill of the store of records.
     pub entries: usize,
     pub used: usize,
@@ -38,20 +38,14 @@ pub struct State {
     pub filled: usize,
     // The rows of a table, or the octets, that are still due.
     pub due: usize,
-    // The number that refuses a record which is given as octets.
-    pub number: u32,
-    pub fault: Fault,
-    // The number that refuses a record, where it is not the one that the text says.
-    pub refused: u32,
-    pub bad: bool,
 }
 
-pub fn begin(private: bool) -> State {
+pub fn begin(side: Side) -> State {
     State {
-        private,
+        side,
         line: 0,
         head: 0,
-        phase: BETWEEN,
+        phase: Phase::Between,
         entries: 0,
         used: 0,
         tenant: 0,
@@ -64,59 +58,58 @@ pub fn begin(private: bool) -> State {
         sizes: [0; 3],
         filled: 0,
         due: 0,
-        number: 0,
-        fault: fault::none(),
-        refused: 0,
-        bad: false,
     }
 }
 
 impl State {
     pub fn next_line(mut self) -> Self {
-        self.line = more(self.line);
+        self.line = self.line.saturating_add(1);
         self
     }
 
-    // Reading ends with a fault.
-    pub fn failed(mut self, fault: Fault) -> Self {
-        self.fault = fault;
-        self.bad = true;
-        self
+    // The fault of a line in which something else was expected at a place.
+    pub fn fault(self, from: usize, expected: Expected) -> Fault {
+        Fault::Unexpected {
+            line: self.line,
+            from,
+            expected,
+        }
     }
 
-    pub fn fails(self, from: usize, code: usize, first: usize, second: usize) -> Self {
-        self.failed(fault::at(from, code, first, second))
+    // The fault of a record that is judged otherwise than the text says.
+    pub fn misjudged(self, verdict: Result<(), Refusal>) -> Fault {
+        Fault::Misjudged(Misjudged {
+            line: self.head,
+            tenant: self.tenant,
+            profile: self.profile,
+            start: self.used,
+            size: self.filled,
+            verdict,
+        })
     }
 
     pub fn rows(self) -> usize {
-        if self.m > 65535 {
-            return 0;
-        }
-        if self.x > 65535 {
-            return 0;
-        }
-        self.m + self.x
+        self.m.saturating_add(self.x)
     }
 
-    // Which row of the table that is begun is due, counted from 1.
-    pub fn row_due(self) -> usize {
+    pub fn columns(self) -> usize {
+        self.kb.saturating_add(self.rows())
+    }
+
+    // The row of the table that is begun, counted from 1, which is due.
+    pub fn row_due(self) -> Expected {
         let rows = self.rows();
-        if self.due > rows {
-            return rows;
+        Expected::Row {
+            row: rows.saturating_sub(self.due).saturating_add(1),
+            rows,
         }
-        more(rows - self.due)
     }
 
     // The z of the last table that is begun, or 0.
     pub fn size(self) -> usize {
-        let t = self.t;
-        let sizes = self.sizes;
-        if t == 0 {
-            return 0;
+        match self.t {
+            1..=3 => self.sizes[self.t - 1],
+            _ => 0,
         }
-        if t > 3 {
-            return 0;
-        }
-        sizes[t - 1]
     }
 }

@@ -1,51 +1,61 @@
 // A record that is whole: it is put together and judged, and then it has its entry.
-use crate::counts::{more, sum};
-use crate::state::State;
-use crate::{fault, heads, state};
-use bits::number::DONE;
+use crate::fault::{Expected, Fault};
+use crate::heads;
+use crate::state::{Phase, State};
+use bits::number::Refusal;
 use console::{counted, page, parts};
 use text::octets;
 
 // Puts a number as two octets, "high octet first".
 pub fn put_two(n: usize, page: &mut [u8], at: usize) -> usize {
-    page::put(&[(n / 256 % 256) as u8, (n % 256) as u8], page, at)
+    page::put(&((n % 65536) as u16).to_be_bytes(), page, at)
 }
 
 // Ends the record that is begun, where one is. What is missing of it is a fault of the line that stands there instead.
-pub fn ended(tables: &[u8], entries: &mut [u8], records: &mut [u8], state: State) -> State {
-    if state.phase == state::BETWEEN {
-        return state;
+pub fn ended(
+    tables: &[u8],
+    entries: &mut [u8],
+    records: &mut [u8],
+    state: State,
+) -> Result<State, Fault> {
+    match state.phase {
+        Phase::Between => Ok(state),
+        Phase::Tables => ended_tables(tables, entries, records, state),
+        Phase::Rows => Err(state.fault(0, state.row_due())),
+        Phase::Octets(refusal) => ended_octets(refusal, entries, records, state),
     }
-    if state.phase == state::OCTETS {
-        return ended_octets(entries, records, state);
-    }
-    if state.phase == state::ROWS {
-        return state.fails(0, fault::ROW, state.row_due(), state.rows());
-    }
+}
+
+fn ended_tables(
+    tables: &[u8],
+    entries: &mut [u8],
+    records: &mut [u8],
+    state: State,
+) -> Result<State, Fault> {
     if state.t == 0 {
-        return state.fails(0, fault::FIRST_SIZE, 0, 0);
+        return Err(state.fault(0, Expected::FirstSize));
     }
-    let mut next = state;
     let end = compose(octets::first(tables, state.filled), records, state);
-    next.filled = size(state.used, end);
+    let next = State {
+        filled: end.saturating_sub(state.used),
+        ..state
+    };
     if !heads::has_room(state, next.filled) {
-        return state.fails(0, fault::ROOM, 0, 0);
+        return Err(state.fault(0, Expected::Room));
     }
-    judged(DONE, entries, records, next)
+    judged(Ok(()), entries, records, next)
 }
 
-fn size(start: usize, end: usize) -> usize {
-    if end < start {
-        return 0;
-    }
-    end - start
-}
-
-fn ended_octets(entries: &mut [u8], records: &[u8], state: State) -> State {
+fn ended_octets(
+    refusal: Refusal,
+    entries: &mut [u8],
+    records: &[u8],
+    state: State,
+) -> Result<State, Fault> {
     if state.due > 0 {
-        return state.fails(0, fault::MORE_OCTETS, state.due, 0);
+        return Err(state.fault(0, Expected::MoreOctets { due: state.due }));
     }
-    judged(state.number, entries, records, state)
+    judged(Err(refusal), entries, records, state)
 }
 
 // Puts the record behind those that are whole: "kb, m, x, type, t", then "t pairs of z .. and offset; then t tables".
@@ -60,42 +70,37 @@ fn compose(tables: &[u8], records: &mut [u8], state: State) -> usize {
 }
 
 fn pairs(filled: usize, records: &mut [u8], at: usize, state: State) -> usize {
-    let sizes = state.sizes;
-    let t = octets::least(state.t, 3);
-    let first = sum(10, parts::times(4, t));
-    let step = counted::per(filled, t);
+    let sizes = state.t.min(3);
+    let mut offset = parts::times(4, sizes).saturating_add(10);
     let mut end = at;
-    let mut i = 0;
-    while i < t {
-        let next = put_two(sizes[i], records, end);
-        end = put_two(sum(first, parts::times(i, step)), records, next);
-        i += 1;
+    for z in &state.sizes[..sizes] {
+        let next = put_two(*z, records, end);
+        end = put_two(offset, records, next);
+        offset = offset.saturating_add(counted::per(filled, sizes));
     }
     end
 }
 
 // The record is judged by the library. It has to be accepted or, where it is given as octets, refused with the number that the text says.
-fn judged(due: u32, entries: &mut [u8], records: &[u8], state: State) -> State {
-    let number = profile::judge(octets_of(records, state));
-    let mut next = state;
-    if number != due {
-        next.refused = number;
-        next.bad = true;
-        return next;
+fn judged(
+    due: Result<(), Refusal>,
+    entries: &mut [u8],
+    records: &[u8],
+    state: State,
+) -> Result<State, Fault> {
+    let verdict = profile::judge(parts::stretch(records, state.used, state.filled));
+    if verdict != due {
+        return Err(state.misjudged(verdict));
     }
-    let at = parts::times(8, state.entries);
-    let a = put_two(state.tenant, entries, at);
+    let a = put_two(state.tenant, entries, parts::times(8, state.entries));
     let b = put_two(state.profile, entries, a);
     let c = put_two(0, entries, b);
     put_two(state.filled, entries, c);
-    next.entries = more(state.entries);
-    next.used = sum(state.used, state.filled);
-    next.filled = 0;
-    next.phase = state::BETWEEN;
-    next
-}
-
-// The octets of the record that is begun.
-pub fn octets_of(records: &[u8], state: State) -> &[u8] {
-    parts::stretch(records, state.used, state.filled)
+    Ok(State {
+        entries: state.entries.saturating_add(1),
+        used: state.used.saturating_add(state.filled),
+        filled: 0,
+        phase: Phase::Between,
+        ..state
+    })
 }

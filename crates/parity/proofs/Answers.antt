@@ -1,16 +1,20 @@
 -- What the public call answers, by its tests.
-use mathlib.Core.Path.{◌≡◌, refl, sym, ap, ◌∙◌}
-use mathlib.Core.Bool.{Bool, true, false, not, ◌||◌}
+use mathlib.Core.Path.{◌≡◌, refl, sym, ◌∙◌}
+use mathlib.Core.Bool.{Bool, true, false, not, cond, ◌||◌}
 use mathlib.Core.List.{List, [], ◌∷◌, ◌++◌}
 use Prim.Native.Nat.{ℕ, ◌*◌, ◌≤◌, ◌<◌}
 use native.Mathlib.Omega.{arith}
 use lib.Dec.{eqb, ltb, lit<}
 use lib.ListN.{length, drop}
-use borrow.Author.Tests.{eqb-true, lt-ltb, le-ltb, ltb-false, not-false}
+use borrow.Author.Tests.{eqb-true, ltb-false, not-false}
+use Rattle.std.specs.Prelude.{Option, Some, None, Ok, Err, unwrap_or, IfSome}
+use Rattle.std.specs.Option.{ok_or}
+use Rattle.bits.specs.declared.number.Refusal.{Refusal}
 use Rattle.bits.specs.Bits.{some_over}
 use Rattle.bits.specs.Numbers.{answered}
 use Rattle.bits.specs.Ranges.{any_below, first_below}
-use Rattle.bits.proofs.Answers.{passed, when-done, when_refused}
+use Rattle.bits.proofs.Answers.{passed, when-done, when_refused, refusal-numbered}
+use Rattle.bits.specs.Refusals.{refusal_number}
 use Rattle.bits.proofs.Ranges.{equal_or, first_some, first-none}
 use Rattle.profile.specs.Record.{kb, t, z, rows, columns}
 use Rattle.profile.specs.Promises.{judge_conditions, judged}
@@ -42,6 +46,15 @@ module _ (R : List ℕ) (z' : ℕ) where
       by_value true q = refl
       by_value false q = absurd (n (first-none (t R) (λ i. eqb (z R i) z') q))
 
+  -- by what the search hands back
+  pub none_found : (o : Option ℕ) {e f : Refusal} → Err f ≡ ok_or o e → unwrap_or o (t R) ≡ at → (has_size R z' ≡ false) × (f ≡ e)
+  none_found None q first = (size_none (sym first), cc)
+  none_found (Some i) q first = absurd (let y : ◌≡◌ {A = ℕ} 0 1 = cc in omega arith)
+
+  pub some_found : (o : Option ℕ) {i : ℕ} (e : Refusal) → Ok i ≡ ok_or o e → unwrap_or o (t R) ≡ at → IfSome o (λ k. k < t R) → has_size R z' ≡ true
+  some_found None e q first within = absurd (let y : ◌≡◌ {A = ℕ} 0 1 = cc in omega arith)
+  some_found (Some k) e q first within = size-some (λ p. omega (arith, within, first, p))
+
   pub unfit-size : (n : ℕ) (w : List ℕ) → has_size R z' ≡ false → unfit R z' n w ≡ true
   unfolding unfit
   unfit-size n w e = rw e
@@ -58,6 +71,11 @@ module _ (R : List ℕ) (z' : ℕ) where
       by_value true q e = (q, eqb-true (length w) (n * z') (not-false _ e))
       by_value false q e = absurd (let y : ◌≡◌ {A = ℕ} 0 1 = cc in omega arith)
 
+-- no number is 8 where the places fit
+pub fit_is : (u : Bool) → ◌≡◌ {A = ℕ} 0 (cond u 8 0) → u ≡ false
+fit_is true q = absurd (omega (arith, q))
+fit_is false q = refl
+
 -- ---- 5 and 6 as the profile is judged, then the others
 
 pub done_first : (R : List ℕ) (rest : List (ℕ × Bool)) → answered (judge_conditions R ++ rest) ≡ 0 → (judged R ≡ 0) × (answered rest ≡ 0)
@@ -70,40 +88,22 @@ module _ (R : List ℕ) (z' : ℕ) (places : List ℕ) (room : ℕ) where
   abbrev others : List (ℕ × Bool)
   others = (8, unfit R z' (kb R) places) ∷ (11, ltb room (columns R * z')) ∷ (12, some_over 2 places) ∷ []
 
-  -- what the code answers, by what it found: j the profile's number, k and c its kb and columns, u and o the tests of 8 and 12
-  module _ (j : ℕ) (found : j ≡ judged R) where
-    pub block-judged : (j ≡ 0 → ⊥) → j ≡ code_number R z' places room
-    unfolding code_number
-    block-judged h = found ∙ sym (judged-first R others (λ q. h (found ∙ q)))
+  pub code_unjudged : (e : Refusal) → refusal_number e ≡ judged R → refusal_number e ≡ code_number R z' places room
+  unfolding code_number
+  code_unjudged e q = q ∙ sym (judged-first R others (λ n. refusal-numbered e (q ∙ n)))
 
-    module _ (done : j ≡ 0) (k c : ℕ) (k-is : k ≡ kb R) (c-is : c ≡ columns R) (u : Bool) (fit : u ≡ unfit R z' k places) where
-      fit_is : {b : Bool} → u ≡ b → unfit R z' (kb R) places ≡ b
-      fit_is e = ap (λ (x : ℕ). unfit R z' x places) (sym k-is) ∙ sym fit ∙ e
+  -- the code's tests of an accepted profile, in their order
+  pub code_in_turn : judged R ≡ 0
+      → code_number R z' places room ≡ cond (unfit R z' (kb R) places) 8 (cond (ltb room (columns R * z')) 11 (cond (some_over 2 places) 12 0))
+  unfolding code_number answered
+  code_in_turn e = judged-passed R others e
 
-      long-is : c * z' ≡ columns R * z'
-      long-is = ap (λ (x : ℕ). x * z') c-is
-
-      pub block-8 : u ≡ true → 8 ≡ code_number R z' places room
-      unfolding code_number answered
-      block-8 e = sym (judged-passed R others (sym found ∙ done) ∙ rw (fit_is e))
-
-      pub block-11 : u ≡ false → room < c * z' → 11 ≡ code_number R z' places room
-      unfolding code_number answered
-      block-11 e l =
-          sym (judged-passed R others (sym found ∙ done) ∙ rw (fit_is e, lt-ltb room (columns R * z') (omega (arith, long-is))))
-
-      module _ (e : u ≡ false) (l : c * z' ≤ room) (o : Bool) (over : o ≡ some_over 2 places) where
-        pub block-12 : o ≡ true → 12 ≡ code_number R z' places room
-        unfolding code_number answered
-        block-12 q =
-            sym (judged-passed R others (sym found ∙ done)
-            ∙ rw (fit_is e, le-ltb room (columns R * z') (omega (arith, long-is)), sym over ∙ q))
-
-        pub block_0 : o ≡ false → 0 ≡ code_number R z' places room
-        unfolding code_number answered
-        block_0 q =
-            sym (judged-passed R others (sym found ∙ done)
-            ∙ rw (fit_is e, le-ltb room (columns R * z') (omega (arith, long-is)), sym over ∙ q))
+  pub code_unfit : (e : Refusal) → judged R ≡ 0 → refusal_number e ≡ cond (unfit R z' (kb R) places) 8 0 → refusal_number e ≡ code_number R z' places room
+  code_unfit e accepted q = by_value (unfit R z' (kb R) places) refl q
+    where
+      by_value : (u : Bool) → unfit R z' (kb R) places ≡ u → refusal_number e ≡ cond u 8 0 → refusal_number e ≡ code_number R z' places room
+      by_value true p n = n ∙ sym (code_in_turn accepted ∙ rw p)
+      by_value false p n = absurd (refusal-numbered e n)
 
   pub block-taken : code_number R z' places room ≡ 0 → Taken R z' places × (columns R * z' ≤ room)
   unfolding code_number

@@ -26,9 +26,6 @@ use Rattle.parity.proofs.Runs.{span-wide, span_fits, zeros-take, run_bits, run_s
 pub group_in : (j n z : ℕ) → j < n → j * z + z ≤ n * z
 group_in j n z h = omega (arith, suc-mul j z, mul-le-mul_right {m = suc j} {n = n} z h)
 
-pub group_next : (j z : ℕ) → j * z + z ≡ (j + 1) * z
-group_next j z = sym (suc-mul j z) ∙ ap (λ (x : ℕ). x * z) (sym (add-one j))
-
 -- ---- a group, doubled
 
 -- n places of the word in either run, of which z are the group's

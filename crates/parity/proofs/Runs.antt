@@ -1,13 +1,12 @@
 -- Runs of places: one turn of a loop that makes one, and the groups that runs make.
 use mathlib.Core.Path.{◌≡◌, refl, sym, ap, ◌∙◌, subst}
-use mathlib.Core.List.{List, ◌++◌}
+use mathlib.Core.List.{List}
 use Prim.Native.Nat.{ℕ, zero, suc, ◌+◌, ◌-◌, ◌%◌, ◌≤◌, ◌<◌}
-use native.Mathlib.Nat.{zero-add, le_antisymm, mod-eq_of_lt}
-use native.Mathlib.Numerals.{add-one}
+use native.Mathlib.Nat.{le_antisymm, mod-eq_of_lt}
 use native.Mathlib.Omega.{arith}
 use lib.Bits.{bit_and, bit_xor, and_mask, xor_lt}
-use lib.ListN.{length, get_or, take, drop, set, replicate, length-set, drop_of_length-le}
-use lib.Seq.{get_or-set_same, get_or-set_other, drop-cons, sets, sets-eq}
+use lib.ListN.{length, get_or, take, set, replicate, length-set}
+use lib.Seq.{get_or-set_same, get_or-set_other}
 use borrow.Author.Tests.{lt-ltb, le-ltb}
 use Rattle.bits.specs.Bits.{AreBits}
 use Rattle.bits.proofs.Ranges.{last_or, below_or}
@@ -101,15 +100,3 @@ run_same h r = record { len = r.len; inside = λ k l. r.inside k l ∙ h k l; be
 
 pub run_long : {n k : ℕ} {f : ℕ → ℕ} {a : List ℕ} {at : ℕ} {b : List ℕ} → n ≡ k → Run k f a at b → Run n f a at b
 run_long {n} {k} {f} {a} {at} {b} e r = subst (λ (x : ℕ). Run x f a at b) (sym e) r
-
--- ---- a copy to the front
-
-module _ (s : List ℕ) where
-  pub copy_turn : (out : List ℕ) (k : ℕ) → k < length s → sets out k (drop k s) ≡ sets (set out k (get_or s k 0)) (k + 1) (drop (k + 1) s)
-  copy_turn out k h = rw (add-one k, drop-cons s k 0)
-
-  pub copy_end : (out : List ℕ) (k : ℕ) → length s ≤ k → sets out k (drop k s) ≡ out
-  copy_end out k h = rw (drop_of_length-le s h)
-
-  pub copy_made : (out : List ℕ) → length s ≤ length out → sets out 0 s ≡ s ++ drop (length s) out
-  copy_made out h = sets-eq s out 0 (omega arith) ∙ ap (λ (n : ℕ). s ++ drop n out) (zero-add (length s))

@@ -38,10 +38,7 @@ pub fn lay_later(
     requires { Codable table.now kb m rows columns z word.old × Begun table.now kb m columns z word.old m word.old × Sums table.now rows columns z word.old (kb + m) 0 sums.old }
     ensures { Begun table.now kb m columns z word.old rows word.new }
 {
-    let mut n = m;
-    while n < rows {
-        let own = kb + n;
-        lay_own(table, rows, columns, z, n, own, word, sums);
-        n += 1;
+    for n in m..rows {
+        lay_own(table, rows, columns, z, n, kb + n, word, sums);
     }
 }

@@ -1,28 +1,25 @@
 // What the public call refuses: the first number of its list whose condition holds, found before anything is done.
-ghost use Rattle.std.specs.Prelude.{◌≡◌};
+ghost use Rattle.std.specs.Prelude.{◌≡◌, IfOk};
+ghost use Rattle.bits.specs.Refusals.{number_of};
 ghost use Rattle.parity.specs.Promises.{code_number};
+ghost use Rattle.parity.specs.Steps.Gate.{size_at};
 
 use crate::inner;
-use bits::number::{DONE, NO_BIT, PARAMETER, SHORT_OUTPUT};
+use bits::number::Refusal;
 
-// The number of a block that is to be coded to an output of `room` octets.
-pub fn block_number(profile: &[u8], z: usize, places: &[u8], room: usize) -> u32
-    ensures { result ≡ code_number profile.now z places.now room }
+// Which of the profile's sizes z is, for a block that is to be coded to an output of `room` octets.
+#[tactic(auto, using(crate::proofs::Answers::code_in_turn))]
+pub fn admit_block(profile: &[u8], z: usize, places: &[u8], room: usize) -> Result<usize, Refusal>
+    ensures number { number_of result ≡ code_number profile.now z places.now room }
+    ensures found { IfOk result (λ i. i ≡ size_at profile.now z) }
 {
-    let number = profile::judge(profile);
-    if number != DONE {
-        return number;
-    }
-    let kb = profile::inner::kb(profile);
-    let columns = profile::inner::columns(profile);
-    if inner::is_unfit(profile, z, kb, places) {
-        return PARAMETER;
-    }
-    if room < columns * z {
-        return SHORT_OUTPUT;
+    profile::judge(profile)?;
+    let index = inner::admit_size(profile, z, profile::inner::kb(profile), places)?;
+    if room < profile::inner::columns(profile) * z {
+        return Err(Refusal::ShortOutput);
     }
     if bits::inner::some_over(2, places) {
-        return NO_BIT;
+        return Err(Refusal::NoBit);
     }
-    DONE
+    Ok(index)
 }

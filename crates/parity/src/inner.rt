@@ -1,28 +1,35 @@
 // For the crates above: whether a z and a length are the profile's; coding and checking where the table is known to go with z and the word's length is right.
-ghost use Rattle.std.specs.Prelude.{◌≡◌, ◌+◌, ◌*◌, ◌≤◌, length};
+ghost use Rattle.std.specs.Prelude.{◌≡◌, cond, ◌+◌, ◌*◌, ◌≤◌, length, IfOk};
+ghost use Rattle.bits.specs.Refusals.{number_of};
 ghost use Rattle.profile.specs.Promises.{judged};
 ghost use Rattle.parity.specs.Matrix.{checks};
 ghost use Rattle.parity.specs.Promises.{unfit};
+ghost use Rattle.parity.specs.Steps.Gate.{size_at};
 ghost use Rattle.parity.specs.Steps.Grouped.{Shape, Codable, Begun, Solution};
 ghost use Rattle.parity.specs.Steps.Runs.{Sums};
 
 use crate::run::LANES;
 use crate::{extension, stairs, sums};
+use bits::number::Refusal;
 
-// Whether z is no size of the profile, or w is not n groups of z places. The product is made only of a z that is a size.
-pub fn is_unfit(profile: &[u8], z: usize, n: usize, w: &[u8]) -> bool
+// Which of the profile's sizes z is, where w is n groups of z places. The product is made only of a z that is a size.
+pub fn admit_size(profile: &[u8], z: usize, n: usize, w: &[u8]) -> Result<usize, Refusal>
     requires { (judged profile.now ≡ 0) × (n ≤ 60) }
-    ensures { result ≡ unfit profile.now z n w.now }
+    ensures number { number_of result ≡ cond (unfit profile.now z n w.now) 8 0 }
+    ensures found { IfOk result (λ i. i ≡ size_at profile.now z) }
 {
-    let t = profile::inner::t(profile);
-    if profile::inner::index_of(profile, z) == t {
-        return true;
+    let index = profile::inner::index_of(profile, z).ok_or(Refusal::Parameter)?;
+    if w.len() != n * z {
+        return Err(Refusal::Parameter);
     }
-    w.len() != n * z
+    Ok(index)
 }
 
-// Most tables have few rows: these are given less room, so that no more is cleared for a small block than it takes.
+// Most tables have few rows: these are given less room, so that no more is cleared for a small block than it takes. Both users choose the room themselves: one that
+// lends it to a closure would have to say what the closure makes of it, which is longer.
 const FEW: usize = 12;
+
+const MOST: usize = 40;
 
 // Whether the word checks: every row of the spread-out matrix sums to an even number over it.
 pub fn checks(table: &[u8], rows: usize, columns: usize, z: usize, word: &[u8]) -> bool
@@ -31,10 +38,10 @@ pub fn checks(table: &[u8], rows: usize, columns: usize, z: usize, word: &[u8]) 
 {
     let n = rows * LANES;
     if rows <= FEW {
-        let mut few = [0u8; 1152];
+        let mut few = [0u8; FEW * LANES];
         return sums::are_even(table, rows, columns, z, word, &mut few[..n]);
     }
-    let mut many = [0u8; 3840];
+    let mut many = [0u8; MOST * LANES];
     sums::are_even(table, rows, columns, z, word, &mut many[..n])
 }
 
@@ -94,9 +101,9 @@ pub fn code(
 {
     let n = rows * LANES;
     if rows <= FEW {
-        let mut few = [0u8; 1152];
+        let mut few = [0u8; FEW * LANES];
         return solve(table, kb, m, rows, columns, z, word, &mut few[..n]);
     }
-    let mut many = [0u8; 3840];
+    let mut many = [0u8; MOST * LANES];
     solve(table, kb, m, rows, columns, z, word, &mut many[..n])
 }

@@ -1,5 +1,5 @@
 // Straight runs of places, with no remainder and no test in the loop, so that the machine takes many places at a time.
-ghost use Rattle.std.specs.Prelude.{◌≡◌, ◌++◌, ◌+◌, ◌≤◌, length, drop};
+ghost use Rattle.std.specs.Prelude.{◌≡◌, ◌+◌, ◌≤◌, length};
 ghost use Rattle.bits.specs.Bits.{AreBits};
 ghost use Rattle.parity.specs.Steps.Runs.{span, Run, copied, added};
 
@@ -12,10 +12,8 @@ pub fn copy_bits(out: &mut [u8], at: usize, g: &[u8], from: usize, n: usize)
     requires { (at + n ≤ length out.old) × (from + n ≤ length g.now) }
     ensures { Run n (copied g.now from) out.old at out.new }
 {
-    let mut k = 0;
-    while k < n {
+    for k in 0..n {
         out[at + k] = g[from + k] & 1;
-        k += 1;
     }
 }
 
@@ -24,10 +22,8 @@ pub fn xor_run(acc: &mut [u8], at: usize, g: &[u8], from: usize, n: usize)
     requires { (at + n ≤ length acc.old) × (from + n ≤ length g.now) × AreBits acc.old × AreBits g.now }
     ensures { Run n (added acc.old at g.now from) acc.old at acc.new }
 {
-    let mut k = 0;
-    while k < n {
-        acc[at + k] = acc[at + k] ^ g[from + k];
-        k += 1;
+    for k in 0..n {
+        acc[at + k] ^= g[from + k];
     }
 }
 
@@ -40,16 +36,4 @@ pub fn xor_row(acc: &mut [u8], at: usize, g: &[u8], from: usize, z: usize)
         return xor_run(acc, at, g, from, LANES);
     }
     xor_run(acc, at, g, from, z)
-}
-
-// Writes s to the front of out, as it is.
-pub fn copy(out: &mut [u8], s: &[u8])
-    requires { length s.now ≤ length out.old }
-    ensures { out.new ≡ s.now ++ drop (length s.now) out.old }
-{
-    let mut k = 0;
-    while k < s.len() {
-        out[k] = s[k];
-        k += 1;
-    }
 }

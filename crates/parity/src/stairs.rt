@@ -10,13 +10,9 @@ pub fn lay_first(sums: &[u8], m: usize, z: usize, word: &mut [u8], at: usize)
     requires { Stacked sums.now m z × (at + z ≤ length word.old) }
     ensures { Groups z 1 (all_rows sums.now m) word.old at word.new }
 {
-    let mut group = [0u8; 96];
-    let mut row = 0;
-    let mut i = 0;
-    while i < m {
-        run::xor_run(&mut group, 0, sums, row, LANES);
-        row += LANES;
-        i += 1;
+    let mut group = [0u8; LANES];
+    for i in 0..m {
+        run::xor_run(&mut group, 0, sums, i * LANES, LANES);
     }
     run::copy_bits(word, at, &group, 0, z);
 }
@@ -26,15 +22,9 @@ pub fn lay_next(sums: &[u8], m: usize, z: usize, word: &mut [u8], at: usize)
     requires { Stacked sums.now m z × (at + (m - 1) * z ≤ length word.old) }
     ensures { Groups z (m - 1) (rows_above sums.now) word.old at word.new }
 {
-    let mut group = [0u8; 96];
-    let mut row = 0;
-    let mut to = at;
-    let mut step = 0;
-    while step < m - 1 {
-        run::xor_run(&mut group, 0, sums, row, LANES);
-        run::copy_bits(word, to, &group, 0, z);
-        row += LANES;
-        to += z;
-        step += 1;
+    let mut group = [0u8; LANES];
+    for step in 0..m - 1 {
+        run::xor_run(&mut group, 0, sums, step * LANES, LANES);
+        run::copy_bits(word, at + step * z, &group, 0, z);
     }
 }

@@ -57,14 +57,8 @@ fn add_column(
     ensures { AreBits g.new × Sums table.now rows columns z word.now (j + 1) 0 sums.new }
 {
     double(word, j * z, z, g);
-    let mut at = 0;
-    let mut e = j;
-    let mut i = 0;
-    while i < rows {
-        add_entry(table[e], g, z, sums, at);
-        at += LANES;
-        e += columns;
-        i += 1;
+    for i in 0..rows {
+        add_entry(table[i * columns + j], g, z, sums, i * LANES);
     }
 }
 
@@ -83,10 +77,8 @@ pub fn add_columns(
     ensures { Sums table.now rows columns z word.now to 0 sums.new }
 {
     let mut g = [0u8; 192];
-    let mut j = from;
-    while j < to {
+    for j in from..to {
         add_column(table, rows, columns, z, j, word, &mut g, sums);
-        j += 1;
     }
 }
 
@@ -104,14 +96,7 @@ fn all_even(sums: &[u8], z: usize, rows: usize) -> bool
     requires { (length sums.now ≡ rows * lanes) × (rows ≤ 40) × (z ≤ 81) }
     ensures { result ≡ all_below rows (even_row sums.now z) }
 {
-    let mut row = 0;
-    while row < rows {
-        if !is_even(sums, z, row) {
-            return false;
-        }
-        row += 1;
-    }
-    true
+    (0..rows).all(|row| is_even(sums, z, row))
 }
 
 // Whether all rows sum to even numbers over the whole word.

@@ -1,6 +1,6 @@
 -- What the public calls answer, by their tests.
-use mathlib.Core.Path.{◌≡◌, refl, ◌∙◌}
-use mathlib.Core.Bool.{Bool, true, false}
+use mathlib.Core.Path.{◌≡◌, refl}
+use mathlib.Core.Bool.{Bool, true, false, not, cond, ◌&&◌}
 use mathlib.Core.List.{List, ◌++◌}
 use Prim.Native.Nat.{ℕ}
 use Rattle.bits.specs.Numbers.{answered}
@@ -13,16 +13,16 @@ use Rattle.profile.specs.Steps.Shape.{shape_right}
 use Rattle.profile.proofs.Shape.{formed-is}
 
 module _ (R : List ℕ) where
-  -- a record whose tables can be read is judged by its entries and then by its staircases
-  pub judged_by : shape_right R ≡ true → (n : ℕ) → (all_below (t R) (table_right R) ≡ true → staircases R ≡ true → n ≡ 0)
-      → (all_below (t R) (table_right R) ≡ true → staircases R ≡ false → n ≡ 6) → (all_below (t R) (table_right R) ≡ false → n ≡ 5) → n ≡ judged R
+  -- the code's tests of a record, in their order
+  pub judged_in_turn : judged R ≡ cond (shape_right R) (cond (all_below (t R) (table_right R)) (cond (staircases R) 0 6) 5) 5
   unfolding judged answered
-  judged_by shape n done six five = by_tests (all_below (t R) (table_right R)) (staircases R) refl refl
+  judged_in_turn = rw (formed-is R) (by_tests (shape_right R) (all_below (t R) (table_right R)) (staircases R))
     where
-      by_tests : (a b : Bool) → all_below (t R) (table_right R) ≡ a → staircases R ≡ b → n ≡ judged R
-      by_tests true true p q = done p q ∙ rw (formed-is R, shape, p, q)
-      by_tests true false p q = six p q ∙ rw (formed-is R, shape, p, q)
-      by_tests false b p q = five p ∙ rw (formed-is R, shape, p)
+      by_tests : (a b c : Bool) → ◌≡◌ {A = ℕ} (cond (not (a && b)) 5 (cond (not c) 6 0)) (cond a (cond b (cond c 0 6) 5) 5)
+      by_tests true true true = refl
+      by_tests true true false = refl
+      by_tests true false c = refl
+      by_tests false b c = refl
 
   -- a profile is judged before everything else: 5 and 6 come first, and where they are passed the rest is left
   module _ (rest : List (ℕ × Bool)) where

@@ -1,13 +1,13 @@
 -- The definition of an extension says that a table has one; and where the entries that the code reads stand.
 use mathlib.Core.Path.{◌≡◌, sym, ap, ap₂, ◌∙◌}
-use mathlib.Core.Bool.{Bool, true, false, ◌&&◌, ◌||◌}
+use mathlib.Core.Bool.{Bool, true, ◌&&◌, ◌||◌}
 use mathlib.Core.List.{List}
 use Prim.Native.Nat.{ℕ, suc, ◌+◌, ◌-◌, ◌*◌, ◌≤◌, ◌<◌}
 use native.Mathlib.Nat.{suc-mul, mul-le-mul, mul-le-mul_right}
 use native.Mathlib.Omega.{arith}
 use lib.Dec.{eqb, leb}
 use lib.ListN.{length, get_or}
-use borrow.Author.Tests.{eqb-true, le-leb, lt-leb, eq-eqb, ne_eqb}
+use borrow.Author.Tests.{eqb-true, le-leb, lt-leb}
 use Rattle.bits.specs.Ranges.{all_below}
 use Rattle.bits.proofs.Ranges.{below_or, both, all-at, all_of, all_same, either_way}
 use Rattle.profile.specs.Record.{entry, empty}
@@ -97,19 +97,9 @@ module _ (T : List ℕ) (kb m x columns i : ℕ) (below : i < x) where
       (λ e. all_of x (later_empty T kb m x columns i)
       (λ j l. below_or i j (λ o. later-place j o ∙ all-at (x - (i + 1)) (empty_from T (own + 1)) e (j - (i + 1)) (omega arith)) (later-free j)))
 
-  extension-at : extension_row T kb m x columns i ≡ eqb (get_or T own 0) 0 && all_below (x - (i + 1)) (empty_from T (own + 1))
+  pub extension_at : extension_row T kb m x columns i ≡ eqb (get_or T own 0) 0 && all_below (x - (i + 1)) (empty_from T (own + 1))
   unfolding extension_row entry
-  extension-at = ap (λ (b : Bool). eqb (get_or T own 0) 0 && b) later-all
-
-  -- the code's two tests of an extension row, in their order
-  module _ {at : ℕ} (place : at ≡ (m + i) * columns + (kb + (m + i))) where
-    pub extension-first : (get_or T at 0 ≡ 0 → ⊥) → false ≡ extension_row T kb m x columns i
-    extension-first n = rw (extension-at, ← place, ne_eqb (get_or T at 0) 0 n)
-
-    pub extension-second : get_or T at 0 ≡ 0 → {r : Bool} {from n : ℕ} → r ≡ all_below n (empty_from T from) → from ≡ at + 1 → n ≡ x - (i + 1)
-        → r ≡ extension_row T kb m x columns i
-    extension-second a q f e =
-        rw (extension-at, ← place, eq-eqb (get_or T at 0) 0 a) (q ∙ ap₂ (λ (u v : ℕ). all_below u (empty_from T v)) e f)
+  extension_at = ap (λ (b : Bool). eqb (get_or T own 0) 0 && b) later-all
 
 -- ---- a whole table
 

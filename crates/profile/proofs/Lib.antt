@@ -1,3 +1,4 @@
+pub mod Counted
 pub mod Shape
 pub mod Stairs
 pub mod Walk

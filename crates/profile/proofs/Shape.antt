@@ -8,7 +8,7 @@ use native.Mathlib.Numerals.{add-one, sub-one}
 use native.Mathlib.Omega.{arith}
 use lib.Dec.{eqb, leb, ltb}
 use lib.ListN.{length, get_or, get_or-eq_default}
-use borrow.Author.Tests.{ltb-true, leb-true, eqb-true, lt-ltb, le-ltb, le-leb, lt-leb, eq-eqb, ne_eqb}
+use borrow.Author.Tests.{ltb-true, leb-true, eqb-true, lt-ltb, le-ltb, le-leb, ne_eqb}
 use Rattle.bits.specs.Ranges.{all_below, within}
 use Rattle.bits.proofs.Ranges.{last_or, below_or, both, all-at, all_of, within-is, either_way}
 use Rattle.bits.proofs.Lists.{length_part}
@@ -16,10 +16,6 @@ use Rattle.profile.specs.Record.{kb, m, x, kind, t, z, offset, rows, columns, ta
 use Rattle.profile.specs.Steps.Shape.{ranges_right, kind_fits, front_right, size_right, shape_right, Whole}
 
 -- ---- a test is the one that is asked for, however it is written
-
-pub same_test : (r : Bool) (x y : ℕ) → (r ≡ true → x ≡ y) → (r ≡ false → x ≡ y → ⊥) → r ≡ eqb x y
-same_test true x y f g = sym (eq-eqb x y (f refl))
-same_test false x y f g = sym (ne_eqb x y (g refl))
 
 pub less-test : (r : Bool) (x y : ℕ) → (r ≡ true → x < y) → (r ≡ false → y ≤ x) → r ≡ ltb x y
 less-test true x y f g = sym (lt-ltb x y (f refl))
@@ -128,9 +124,6 @@ module _ (R : List ℕ) where
   header-in-turn = in_turn (within 1 20 (kb R) && within 3 12 (m R)) (kind_right R) (within 1 3 (t R))
 
   -- the code's three tests of the header, in their order
-  pub front-first : length R < 10 → false ≡ front_right R
-  unfolding front_right
-  front-first l = rw (lt-leb 10 (length R) l)
 
   pub front-second : 10 ≤ length R → ranges_right (kb R) (m R) (t R) ≡ false → false ≡ front_right R
   unfolding front_right
@@ -184,25 +177,9 @@ module _ (R : List ℕ) where
 
   -- the code's three tests of a size, and its three of the shape, in their order
   module _ (i : ℕ) where
-    pub size-first : within 1 81 (z R i) ≡ false → false ≡ size_right R i
-    unfolding size_right
-    size-first a = rw a
-
-    pub size-second : within 1 81 (z R i) ≡ true → rises R i ≡ false → false ≡ size_right R i
-    unfolding size_right
-    size-second a b = rw (a, b)
-
     pub size-third : within 1 81 (z R i) ≡ true → rises R i ≡ true → (r : Bool) → r ≡ eqb (offset R i) (offset_due R i) → r ≡ size_right R i
     unfolding size_right
     size-third a b r e = rw (a, b) e
-
-  pub shape-first : front_right R ≡ false → false ≡ shape_right R
-  unfolding shape_right
-  shape-first a = rw a
-
-  pub shape-second : front_right R ≡ true → ends_right R ≡ false → false ≡ shape_right R
-  unfolding shape_right
-  shape-second a b = rw (a, b)
 
   pub shape-third : front_right R ≡ true → ends_right R ≡ true → (r : Bool) → r ≡ all_below (t R) (size_right R) → r ≡ shape_right R
   unfolding shape_right

@@ -1,18 +1,20 @@
 -- The code's walk of a table finds a staircase exactly where the definition says that it is one; and where the rows that it reads stand.
 use mathlib.Core.Path.{◌≡◌, refl, sym, ap, ap₂, ◌∙◌}
-use mathlib.Core.Bool.{Bool, true, false, and-true, and_assoc, ◌&&◌}
+use mathlib.Core.Bool.{Bool, true, false, and-true, and_assoc, ◌&&◌, ◌||◌}
 use mathlib.Core.List.{List}
 use Prim.Native.Nat.{ℕ, zero, suc, ◌+◌, ◌-◌, ◌*◌, ◌≤◌, ◌<◌}
 use native.Mathlib.Nat.{add-suc, suc-mul, mul-le-mul_right}
 use native.Mathlib.Numerals.{add-one, sub-one}
 use native.Mathlib.Omega.{arith}
 use lib.Dec.{eqb}
-use lib.ListN.{length, get_or}
-use borrow.Author.Tests.{eqb-true, eq-eqb}
+use lib.ListN.{length, get_or, take, drop}
+use Rattle.std.proofs.lemmas.List.{get_or-take, get_or-drop}
+use borrow.Author.Tests.{eqb-true, eq-eqb, ne_eqb}
 use Rattle.bits.specs.Ranges.{all_below}
 use Rattle.bits.proofs.Ranges.{below_or, equal_or, all-at, all_of, all_same, either_way}
+use Rattle.bits.proofs.Lists.{length_part}
 use Rattle.profile.specs.Record.{entry, empty}
-use Rattle.profile.specs.Staircase.{filled, first_column, next_due, next_column, staircase, row_ends, extension_row, extended}
+use Rattle.profile.specs.Staircase.{filled, first_column, next_due, next_column, staircase}
 use Rattle.profile.specs.Steps.Shape.{Sized}
 use Rattle.profile.specs.Steps.Walk.{column, NextFilled, next_right, row_right, empty_from, before_right, behind_right}
 use Rattle.profile.proofs.Stairs.{Only, only_at, filled_is, is-filled, is_unfilled, first-is, is-first, due-upper, due-lower, due-rest}
@@ -96,21 +98,12 @@ all_parts p a (suc n) =
     let rest = all_below n (λ k. p (a + suc k)) in
     rw (add-suc a (suc n), all_parts p a n, and_assoc (all_below a p) (p a && rest) (p (a + suc n)), and_assoc (p a) rest (p (a + suc n)))
 
--- the code's tests of the entries up to the row's own column, in their order
+-- the entries up to a row's own column, where it has some before it
 module _ (T : List ℕ) (first : ℕ) where
-  pub before-none : (n : ℕ) → n ≡ 0 → true ≡ before_right T first n
+  pub before_later : (n : ℕ) → (n ≡ 0 → ⊥) → before_right T first n ≡ all_below (n - 1) (empty_from T first) && eqb (get_or T (first + (n - 1)) 0) 0
   unfolding before_right
-  before-none n e = rw e
-
-  pub before-first : (n : ℕ) → (n ≡ 0 → ⊥) → all_below (n - 1) (empty_from T first) ≡ false → false ≡ before_right T first n
-  unfolding before_right
-  before-first zero d e = absurd (d refl)
-  before-first (suc n) d e = rw (rw sub-one at e)
-
-  pub before-second : (n : ℕ) → (n ≡ 0 → ⊥) → all_below (n - 1) (empty_from T first) ≡ true → eqb (get_or T (first + (n - 1)) 0) 0 ≡ before_right T first n
-  unfolding before_right
-  before-second zero d e = absurd (d refl)
-  before-second (suc n) d e = rw (rw sub-one at e, sub-one)
+  before_later zero d = absurd (d refl)
+  before_later (suc n) d = rw sub-one
 
 module _ (T : List ℕ) (kb columns : ℕ) where
   abbrev first : ℕ → ℕ
@@ -155,14 +148,12 @@ module _ (T : List ℕ) (kb columns : ℕ) where
         let n : m - 1 ≡ row + suc (m - (row + 2)) = omega arith in
         rw n (all_parts (next_right T kb columns row) row (m - (row + 2)) ∙ ap₂ (λ (a b : Bool). a && b) (before-is row) (behind-is row (m - (row + 2))))
 
-    pub row_first : row < m → before_right T (first row) row ≡ false → false ≡ row_right T kb m columns row
-    row_first l e = below_or (suc row) m (λ h. rw (row-parts h, e)) (λ h. rw (row-end (omega arith), e))
-
-    pub row_last : suc row ≡ m → before_right T (first row) row ≡ true → true ≡ row_right T kb m columns row
-    row_last q e = rw (row-end q, e)
-
-    pub row-second : suc row < m → before_right T (first row) row ≡ true → {r : Bool} → r ≡ behind_right T (first row + row) (m - (row + 2)) → r ≡ row_right T kb m columns row
-    row-second l e q = rw (row-parts l, e) q
+    pub row_in_turn : row < m → row_right T kb m columns row
+        ≡ before_right T (first row) row && (eqb (row + 1) m || behind_right T (first row + row) (m - (row + 2)))
+    row_in_turn l =
+        below_or (suc row) m
+        (λ h. let more : eqb (row + 1) m ≡ false = ne_eqb (row + 1) m (λ e. omega arith) in rw more (row-parts h))
+        (λ h. let last : eqb (row + 1) m ≡ true = eq-eqb (row + 1) m (omega arith) in rw (last, and-true (before_right T (first row) row)) (row-end (omega arith)))
 
 -- ---- the table
 
@@ -172,27 +163,17 @@ all_swap m n p =
     either_way _ _ (λ e. all_of n (λ j. all_below m (λ i. p i j)) (λ j h. all_of m (λ i. p i j) (λ i l. all-at n (p i) (all-at m (λ k. all_below n (p k)) e i l) j h)))
     (λ e. all_of m (λ i. all_below n (p i)) (λ i l. all_of n (p i) (λ j h. all-at m (λ k. p k j) (all-at n (λ k. all_below m (λ o. p o k)) e j h) i l)))
 
--- the code's tests of a table, in their order
-module _ (T : List ℕ) (kb m x columns : ℕ) where
-  abbrev whole : Bool
-  whole = staircase T kb m columns && extended T kb m x columns
+-- the code's two tests of the staircase, in their order
+pub stairs_are : (T : List ℕ) (kb m columns : ℕ) → staircase T kb m columns ≡ first_column m (column T columns kb) && all_below m (row_right T kb m columns)
+unfolding staircase row_right next_right next_column
+stairs_are T kb m columns = ap (λ (b : Bool). first_column m (column T columns kb) && b) (sym (all_swap m (m - 1) (next_right T kb columns)))
 
-  stairs-are : staircase T kb m columns ≡ first_column m (column T columns kb) && all_below m (row_right T kb m columns)
-  unfolding staircase row_right next_right next_column
-  stairs-are = ap (λ (b : Bool). first_column m (column T columns kb) && b) (sym (all_swap m (m - 1) (next_right T kb columns)))
+-- ---- a stretch of a row
 
-  pub stairs-first : first_column m (column T columns kb) ≡ false → false ≡ whole
-  stairs-first e = rw (stairs-are, e)
-
-  module _ (a : first_column m (column T columns kb) ≡ true) where
-    pub stairs-second : all_below m (row_right T kb m columns) ≡ false → false ≡ whole
-    stairs-second e = rw (stairs-are, a, e)
-
-    module _ (b : all_below m (row_right T kb m columns) ≡ true) where
-      pub stairs-third : all_below m (row_ends T kb m x columns) ≡ false → false ≡ whole
-      unfolding extended
-      stairs-third e = rw (stairs-are, a, b, e)
-
-      pub stairs-fourth : all_below m (row_ends T kb m x columns) ≡ true → {r : Bool} → r ≡ all_below x (extension_row T kb m x columns) → r ≡ whole
-      unfolding extended
-      stairs-fourth e q = rw (stairs-are, a, b, e) q
+-- its entries are those of the table from there on
+pub empty_stretch : (T : List ℕ) (from n d : ℕ) → d ≡ n → from + n ≤ length T
+    → all_below (length (take d (drop from T))) (λ k. eqb (get_or (take d (drop from T)) k 0) empty) ≡ all_below n (empty_from T from)
+unfolding empty_from
+empty_stretch T from n d e inside =
+    rw (e, length_part n from T inside)
+    (all_same n _ _ (λ k l. ap (λ (y : ℕ). eqb y empty) (get_or-take n (drop from T) k 0 l ∙ get_or-drop from T k 0)))

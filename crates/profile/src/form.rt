@@ -6,37 +6,25 @@ ghost use Rattle.profile.specs.Steps.Shape.{ranges_right, kind_fits, front_right
 
 use crate::inner::EMPTY;
 use crate::parts;
+use bits::inner::is_within;
 
+#[tactic(auto, unfolding(crate::specs::Steps::Shape::ranges_right))]
 fn ranges_right(kb: usize, m: usize, t: usize) -> bool
     ensures { result ≡ ranges_right kb m t }
 {
-    if !bits::inner::is_within(1, 20, kb) {
-        return false;
-    }
-    if !bits::inner::is_within(3, 12, m) {
-        return false;
-    }
-    bits::inner::is_within(1, 3, t)
+    is_within(1, 20, kb) && is_within(3, 12, m) && is_within(1, 3, t)
 }
 
 // The type and the rows of the extension. That x is at most 37 follows from m.
+#[tactic(auto, unfolding(crate::specs::Steps::Shape::kind_fits))]
 fn kind_right(m: usize, x: usize, kind: usize) -> bool
     requires { (m ≤ 12) × (x < 65536) }
     ensures { result ≡ kind_fits m x kind }
 {
-    let rows = m + x;
-    if 40 < rows {
-        return false;
-    }
-    if !bits::inner::is_within(1, 2, kind) {
-        return false;
-    }
-    if kind == 2 {
-        return true;
-    }
-    x == 0
+    m + x <= 40 && is_within(1, 2, kind) && (kind == 2 || x == 0)
 }
 
+#[tactic(auto, unfolding(crate::specs::Steps::Shape::front_right))]
 fn header_right(profile: &[u8]) -> bool
     ensures { result ≡ front_right profile.now }
 {
@@ -44,71 +32,49 @@ fn header_right(profile: &[u8]) -> bool
         return false;
     }
     let m = parts::m(profile);
-    if !ranges_right(parts::kb(profile), m, parts::t(profile)) {
-        return false;
-    }
-    kind_right(m, parts::x(profile), parts::kind(profile))
+    ranges_right(parts::kb(profile), m, parts::t(profile))
+        && kind_right(m, parts::x(profile), parts::kind(profile))
 }
 
+#[tactic(auto, unfolding(crate::specs::Record::ends_right))]
 fn ends_right(profile: &[u8]) -> bool
     requires { front_right profile.now ≡ true }
     ensures { result ≡ ends_right profile.now }
 {
-    let end = parts::offset_due(profile, parts::t(profile));
-    profile.len() == end
+    profile.len() == parts::offset_due(profile, parts::t(profile))
 }
 
+#[tactic(auto, unfolding(crate::specs::Record::rises))]
 fn is_rising(profile: &[u8], i: usize) -> bool
     requires { 14 + 4 * i ≤ length profile.now }
     ensures { result ≡ rises profile.now i }
 {
-    if i == 0 {
-        return true;
-    }
-    let before = parts::z(profile, i - 1);
-    let here = parts::z(profile, i);
-    before < here
+    i == 0 || parts::z(profile, i - 1) < parts::z(profile, i)
 }
 
+#[tactic(auto, unfolding(crate::specs::Steps::Shape::size_right))]
 fn size_right(profile: &[u8], i: usize) -> bool
     requires { (front_right profile.now ≡ true) × (14 + 4 * i ≤ length profile.now) × (i ≤ 3) }
     ensures { result ≡ size_right profile.now i }
 {
-    if !bits::inner::is_within(1, 81, parts::z(profile, i)) {
-        return false;
-    }
-    if !is_rising(profile, i) {
-        return false;
-    }
-    parts::offset(profile, i) == parts::offset_due(profile, i)
+    is_within(1, 81, parts::z(profile, i))
+        && is_rising(profile, i)
+        && parts::offset(profile, i) == parts::offset_due(profile, i)
 }
 
 fn sizes_right(profile: &[u8]) -> bool
     requires { (front_right profile.now ≡ true) × (ends_right profile.now ≡ true) }
     ensures { result ≡ all_below (t profile.now) (size_right profile.now) }
 {
-    let t = parts::t(profile);
-    let mut i = 0;
-    while i < t {
-        if !size_right(profile, i) {
-            return false;
-        }
-        i += 1;
-    }
-    true
+    (0..parts::t(profile)).all(|i| size_right(profile, i))
 }
 
 // All but the entries: where this holds, every table can be read.
+#[tactic(auto, unfolding(crate::specs::Steps::Shape::shape_right))]
 pub fn shape_right(profile: &[u8]) -> bool
     ensures { result ≡ shape_right profile.now }
 {
-    if !header_right(profile) {
-        return false;
-    }
-    if !ends_right(profile) {
-        return false;
-    }
-    sizes_right(profile)
+    header_right(profile) && ends_right(profile) && sizes_right(profile)
 }
 
 fn shift_right(z: u8, s: u8) -> bool
@@ -122,10 +88,8 @@ fn shifts_right(z: u8, table: &[u8]) -> bool
     ensures { result ≡ all_below (length table.now) (λ k. shift_right z (get_or table.now k 0)) }
 {
     let mut right = true;
-    let mut k = 0;
-    while k < table.len() {
-        right = right & shift_right(z, table[k]);
-        k += 1;
+    for s in table {
+        right &= shift_right(z, *s);
     }
     right
 }
@@ -143,13 +107,5 @@ pub fn tables_right(profile: &[u8]) -> bool
     requires { shape_right profile.now ≡ true }
     ensures { result ≡ all_below (t profile.now) (table_right profile.now) }
 {
-    let t = parts::t(profile);
-    let mut i = 0;
-    while i < t {
-        if !table_right(profile, i) {
-            return false;
-        }
-        i += 1;
-    }
-    true
+    (0..parts::t(profile)).all(|i| table_right(profile, i))
 }

@@ -1,5 +1,5 @@
 // For the layers above, which have judged the profile once: its parts.
-ghost use Rattle.std.specs.Prelude.{◌≡◌, ◌≤◌, ◌<◌, eqb};
+ghost use Rattle.std.specs.Prelude.{◌≡◌, ◌≤◌, ◌<◌, eqb, unwrap_or, IfSome};
 ghost use Rattle.bits.specs.Ranges.{first_below};
 ghost use Rattle.profile.specs.Record.{kb, m, kind, t, z, rows, columns, table};
 ghost use Rattle.profile.specs.Promises.{judged};
@@ -23,7 +23,7 @@ pub fn m(profile: &[u8]) -> usize
     parts::m(profile)
 }
 
-// The type, 1 or 2.
+// The type, 1 or 2: a number, since rate matching, which takes it, does not stand on this crate.
 pub fn kind(profile: &[u8]) -> usize
     requires { judged profile.now ≡ 0 }
     ensures { (result ≡ kind profile.now) × (1 ≤ result) × (result ≤ 2) }
@@ -67,18 +67,11 @@ pub fn table(profile: &[u8], i: usize) -> &[u8]
     parts::table(profile, i)
 }
 
-// Which of the sizes a z is, and t where the profile has no such z.
-pub fn index_of(profile: &[u8], wanted: usize) -> usize
+// Which of the sizes a z is, where the profile has it.
+pub fn index_of(profile: &[u8], wanted: usize) -> Option<usize>
     requires { judged profile.now ≡ 0 }
-    ensures { result ≡ first_below (t profile.now) (λ i. eqb (z profile.now i) wanted) }
+    ensures first { unwrap_or result (t profile.now) ≡ first_below (t profile.now) (λ i. eqb (z profile.now i) wanted) }
+    ensures within { IfSome result (λ i. i < t profile.now) }
 {
-    let t = t(profile);
-    let mut i = 0;
-    while i < t {
-        if z(profile, i) == wanted {
-            return i;
-        }
-        i += 1;
-    }
-    t
+    (0..t(profile)).find(|i| z(profile, *i) == wanted)
 }

@@ -7,24 +7,21 @@ mod parts;
 mod staircase;
 
 ghost use Rattle.std.specs.Prelude.{◌≡◌};
+ghost use Rattle.bits.specs.Refusals.{number_of};
 ghost use Rattle.profile.specs.Promises.{judged};
 
-use bits::number::{DONE, NO_STAIRCASE, PROFILE};
+use bits::number::Refusal;
 
-// The number of a record. 5 goes before 6 over the whole record: a wrong entry in the last table wins over a first table that is no staircase.
-pub fn judge(profile: &[u8]) -> u32
-    ensures { result ≡ judged profile.now }
+// Whether a record is a profile. 5 goes before 6 over the whole record: a wrong entry in the last table wins over a first table that is no staircase.
+#[tactic(auto, using(crate::proofs::Answers::judged_in_turn))]
+pub fn judge(profile: &[u8]) -> Result<(), Refusal>
+    ensures { number_of result ≡ judged profile.now }
 {
-    if !form::shape_right(profile) {
-        return PROFILE;
+    if !form::shape_right(profile) || !form::tables_right(profile) {
+        return Err(Refusal::Profile);
     }
-    let entries = form::tables_right(profile);
-    let stairs = staircase::staircases(profile);
-    if entries {
-        if stairs {
-            return DONE;
-        }
-        return NO_STAIRCASE;
+    if !staircase::staircases(profile) {
+        return Err(Refusal::NoStaircase);
     }
-    PROFILE
+    Ok(())
 }

@@ -2,10 +2,10 @@
 // then the columns after it row by row.
 ghost use Rattle.std.specs.Prelude.{◌≡◌, true, ◌&&◌, ◌+◌, ◌*◌, ◌<◌, ◌≤◌, length};
 ghost use Rattle.bits.specs.Ranges.{all_below};
-ghost use Rattle.profile.specs.Record.{entry};
+ghost use Rattle.profile.specs.Record.{t, entry};
 ghost use Rattle.profile.specs.Staircase.{first_column, staircase, row_ends, extension_row, extended, staircases};
 ghost use Rattle.profile.specs.Steps.Shape.{shape_right, Sized, Whole};
-ghost use Rattle.profile.specs.Steps.Walk.{column, NextFilled, row_right, empty_from, before_right, behind_right};
+ghost use Rattle.profile.specs.Steps.Walk.{column, NextFilled, row_right, empty_from, before_right, behind_right, stairs_at};
 
 use crate::inner::EMPTY;
 use crate::parts;
@@ -28,14 +28,12 @@ fn next_filled(table: &[u8], kb: usize, m: usize, columns: usize, from: usize) -
     requires { Sized table.now kb m columns × (from < m) }
     ensures { NextFilled (column table.now columns kb) m from result }
 {
-    let mut row = from;
-    while row + 1 < m {
+    for row in from..m - 1 {
         if first_entry(table, kb, columns, row) != EMPTY {
             return row;
         }
-        row += 1;
     }
-    row
+    m - 1
 }
 
 fn first_right(table: &[u8], kb: usize, m: usize, columns: usize) -> bool
@@ -60,85 +58,66 @@ fn first_right(table: &[u8], kb: usize, m: usize, columns: usize) -> bool
     first_entry(table, kb, columns, last) == outer
 }
 
-// Whether n entries from `from` on are empty: at most 10, too few for a straight loop to pay.
+// Whether n entries from `from` on are empty: at most 10, too few for the straight loop of `rest_empty`, by which judging takes a fifth longer.
 fn are_empty(table: &[u8], from: usize, n: usize) -> bool
     requires { from + n ≤ length table.now }
     ensures { result ≡ all_below n (empty_from table.now from) }
 {
-    let mut j = 0;
-    while j < n {
-        if table[from + j] != EMPTY {
-            return false;
-        }
-        j += 1;
-    }
-    true
+    table[from..from + n].iter().all(|e| *e == EMPTY)
 }
 
 // A row's first entries after column kb: empty but for the last of them.
+#[tactic(auto, using(crate::proofs::Walk::before_later))]
 fn before_right(table: &[u8], first: usize, n: usize) -> bool
     requires { first + n ≤ length table.now }
     ensures { result ≡ before_right table.now first n }
 {
-    if n == 0 {
-        return true;
-    }
-    if !are_empty(table, first, n - 1) {
-        return false;
-    }
-    table[first + (n - 1)] == STEP
+    n == 0 || are_empty(table, first, n - 1) && table[first + (n - 1)] == STEP
 }
 
 // The entries behind them: empty but for the first.
+#[tactic(auto, unfolding(crate::specs::Steps::Walk::behind_right))]
 fn behind_right(table: &[u8], own: usize, later: usize) -> bool
     requires { own + later < length table.now }
     ensures { result ≡ behind_right table.now own later }
 {
-    if table[own] != STEP {
-        return false;
-    }
-    are_empty(table, own + 1, later)
+    table[own] == STEP && are_empty(table, own + 1, later)
 }
 
 // The columns after column kb, in a row.
+#[tactic(auto, using(crate::proofs::Walk::row_in_turn))]
 fn row_right(table: &[u8], kb: usize, m: usize, columns: usize, row: usize) -> bool
     requires { Sized table.now kb m columns × (row < m) }
     ensures { result ≡ row_right table.now kb m columns row }
 {
     let first = row * columns + kb + 1;
-    if !before_right(table, first, row) {
-        return false;
-    }
-    if row + 1 == m {
-        return true;
-    }
-    behind_right(table, first + row, m - (row + 2))
+    before_right(table, first, row)
+        && (row + 1 == m || behind_right(table, first + row, m - (row + 2)))
 }
 
 fn rows_right(table: &[u8], kb: usize, m: usize, columns: usize) -> bool
     requires { Sized table.now kb m columns }
     ensures { result ≡ all_below m (row_right table.now kb m columns) }
 {
-    let mut row = 0;
-    while row < m {
-        if !row_right(table, kb, m, columns, row) {
-            return false;
-        }
-        row += 1;
-    }
-    true
+    (0..m).all(|row| row_right(table, kb, m, columns, row))
 }
 
-// The same of a row's extension columns: up to 37, so it looks at each, with no early way out, and the loop is straight.
+#[tactic(auto, using(crate::proofs::Walk::stairs_are))]
+fn is_staircase(table: &[u8], kb: usize, m: usize, columns: usize) -> bool
+    requires { Sized table.now kb m columns }
+    ensures { result ≡ staircase table.now kb m columns }
+{
+    first_right(table, kb, m, columns) && rows_right(table, kb, m, columns)
+}
+
+// Whether a row's extension columns are empty: they are up to 37, so it looks at each, with no early way out, and the loop is straight.
 fn rest_empty(table: &[u8], from: usize, n: usize) -> bool
     requires { from + n ≤ length table.now }
     ensures { result ≡ all_below n (empty_from table.now from) }
 {
     let mut empty = true;
-    let mut j = 0;
-    while j < n {
-        empty = empty & (table[from + j] == EMPTY);
-        j += 1;
+    for e in &table[from..from + n] {
+        empty &= *e == EMPTY;
     }
     empty
 }
@@ -156,76 +135,58 @@ fn rows_end(table: &[u8], kb: usize, m: usize, x: usize, columns: usize) -> bool
     requires { Whole table.now kb m x columns }
     ensures { result ≡ all_below m (row_ends table.now kb m x columns) }
 {
-    let mut row = 0;
-    while row < m {
-        if !row_ends(table, kb, m, x, columns, row) {
-            return false;
-        }
-        row += 1;
-    }
-    true
+    (0..m).all(|row| row_ends(table, kb, m, x, columns, row))
 }
 
 // An extension row in its own column and behind it.
+#[tactic(auto, using(crate::proofs::Extension::extension_at))]
 fn extension_row(table: &[u8], kb: usize, m: usize, x: usize, columns: usize, i: usize) -> bool
     requires { Whole table.now kb m x columns × (i < x) }
     ensures { result ≡ extension_row table.now kb m x columns i }
 {
     let row = m + i;
     let own = row * columns + (kb + row);
-    if table[own] != STEP {
-        return false;
-    }
-    let later = x - (i + 1);
-    rest_empty(table, own + 1, later)
+    table[own] == STEP && rest_empty(table, own + 1, x - (i + 1))
 }
 
 fn extension_rows(table: &[u8], kb: usize, m: usize, x: usize, columns: usize) -> bool
     requires { Whole table.now kb m x columns }
     ensures { result ≡ all_below x (extension_row table.now kb m x columns) }
 {
-    let mut i = 0;
-    while i < x {
-        if !extension_row(table, kb, m, x, columns, i) {
-            return false;
-        }
-        i += 1;
-    }
-    true
+    (0..x).all(|i| extension_row(table, kb, m, x, columns, i))
 }
 
-fn is_staircase(table: &[u8], kb: usize, m: usize, x: usize, columns: usize) -> bool
+#[tactic(auto, unfolding(crate::specs::Staircase::extended))]
+fn is_extended(table: &[u8], kb: usize, m: usize, x: usize, columns: usize) -> bool
+    requires { Whole table.now kb m x columns }
+    ensures { result ≡ extended table.now kb m x columns }
+{
+    rows_end(table, kb, m, x, columns) && extension_rows(table, kb, m, x, columns)
+}
+
+#[tactic(auto, using(crate::proofs::Extension::stepped))]
+fn is_right(table: &[u8], kb: usize, m: usize, x: usize, columns: usize) -> bool
     requires { Whole table.now kb m x columns }
     ensures { result ≡ (staircase table.now kb m columns && extended table.now kb m x columns) }
 {
-    if !first_right(table, kb, m, columns) {
-        return false;
-    }
-    if !rows_right(table, kb, m, columns) {
-        return false;
-    }
-    if !rows_end(table, kb, m, x, columns) {
-        return false;
-    }
-    extension_rows(table, kb, m, x, columns)
+    is_staircase(table, kb, m, columns) && is_extended(table, kb, m, x, columns)
 }
 
-// Every table of a record whose tables can be read.
-pub fn staircases(profile: &[u8]) -> bool
-    requires { shape_right profile.now ≡ true }
-    ensures { result ≡ staircases profile.now }
+// A table of a record whose tables can be read.
+fn has_stairs(profile: &[u8], i: usize) -> bool
+    requires { (shape_right profile.now ≡ true) × (i < t profile.now) }
+    ensures { result ≡ stairs_at profile.now i }
 {
     let kb = parts::kb(profile);
     let m = parts::m(profile);
     let x = parts::x(profile);
-    let columns = parts::columns(profile);
-    let t = parts::t(profile);
-    let mut i = 0;
-    while i < t {
-        if !is_staircase(parts::table(profile, i), kb, m, x, columns) {
-            return false;
-        }
-        i += 1;
-    }
-    true
+    is_right(parts::table(profile, i), kb, m, x, parts::columns(profile))
+}
+
+// Every table of such a record.
+pub fn staircases(profile: &[u8]) -> bool
+    requires { shape_right profile.now ≡ true }
+    ensures { result ≡ staircases profile.now }
+{
+    (0..parts::t(profile)).all(|i| has_stairs(profile, i))
 }

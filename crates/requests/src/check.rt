@@ -5,9 +5,5 @@ use text::forms::WORDS;
 
 pub fn answer(numbers: &[usize; WORDS], record: &[u8], bits: &[u8]) -> Answer {
     let by = checker::of_place(numbers[4]);
-    let verdict = checking::check_word(record, numbers[2], bits, by);
-    Answer::Verdict {
-        number: verdict.number,
-        checks: verdict.checks,
-    }
+    Answer::Verdict(checking::check_word(record, numbers[2], bits, by))
 }

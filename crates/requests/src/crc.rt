@@ -3,9 +3,5 @@ use crate::answers::Answer;
 use text::forms::WORDS;
 
 pub fn answer(numbers: &[usize; WORDS], bits: &[u8]) -> Answer {
-    let sum = checksum::of_bits(numbers[1], bits);
-    Answer::Sum {
-        number: sum.number,
-        value: sum.value,
-    }
+    Answer::Sum(checksum::of_bits(numbers[1], bits))
 }

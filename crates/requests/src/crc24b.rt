@@ -2,9 +2,5 @@
 use crate::answers::Answer;
 
 pub fn answer(bits: &[u8]) -> Answer {
-    let sum = blocksum::of_block_bits(bits);
-    Answer::Sum {
-        number: sum.number,
-        value: sum.value,
-    }
+    Answer::Sum(blocksum::of_block_bits(bits))
 }

@@ -5,7 +5,7 @@ use text::forms::WORDS;
 use text::shown::Shown;
 
 pub fn answer(numbers: &[usize; WORDS], bits: &[u8], lent: &mut [u8]) -> Answer {
-    output::fill(lent);
-    let written = masked::append(numbers[1], numbers[2] as u64, bits, lent);
-    output::answer(Shown::Bits, written, lent)
+    output::written(Shown::Bits, lent, |lent| {
+        masked::append(numbers[1], numbers[2] as u64, bits, lent)
+    })
 }

@@ -3,9 +3,5 @@ use crate::answers::Answer;
 use text::forms::WORDS;
 
 pub fn answer(numbers: &[usize; WORDS], bits: &[u8]) -> Answer {
-    let sum = masked::sum_under(numbers[1], numbers[2] as u64, bits);
-    Answer::Sum {
-        number: sum.number,
-        value: sum.value,
-    }
+    Answer::Sum(masked::sum_under(numbers[1], numbers[2] as u64, bits))
 }

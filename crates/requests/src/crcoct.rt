@@ -3,9 +3,5 @@ use crate::answers::Answer;
 use text::forms::WORDS;
 
 pub fn answer(numbers: &[usize; WORDS], octets: &[u8]) -> Answer {
-    let sum = checksum::of_octets(numbers[1], octets);
-    Answer::Sum {
-        number: sum.number,
-        value: sum.value,
-    }
+    Answer::Sum(checksum::of_octets(numbers[1], octets))
 }

@@ -3,9 +3,5 @@ use crate::answers::Answer;
 use text::forms::WORDS;
 
 pub fn answer(numbers: &[usize; WORDS], word: &[u8]) -> Answer {
-    let tested = masked::test(numbers[1], numbers[2] as u64, word);
-    Answer::Verdict {
-        number: tested.number,
-        checks: tested.holds,
-    }
+    Answer::Verdict(masked::test(numbers[1], numbers[2] as u64, word))
 }

@@ -5,7 +5,7 @@ use text::forms::WORDS;
 use text::shown::Shown;
 
 pub fn answer(numbers: &[usize; WORDS], record: &[u8], places: &[u8], lent: &mut [u8]) -> Answer {
-    output::fill(lent);
-    let written = parity::code_block(record, numbers[2], places, lent);
-    output::answer(Shown::Places, written, lent)
+    output::written(Shown::Places, lent, |lent| {
+        parity::code_block(record, numbers[2], places, lent)
+    })
 }

@@ -13,9 +13,5 @@ pub fn answer<'a>(
     let tenant = short_of(numbers[3]);
     let profile = short_of(numbers[4]);
     let by = checker::of_place(numbers[7]);
-    let verdict = shelf::hosted_check(private, public, tenant, profile, numbers[5], bits, by);
-    Answer::Verdict {
-        number: verdict.number,
-        checks: verdict.checks,
-    }
+    Answer::Verdict(shelf::hosted_check(private, public, tenant, profile, numbers[5], bits, by))
 }

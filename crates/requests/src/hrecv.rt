@@ -13,7 +13,6 @@ pub fn answer<'a>(
     bits: &[u8],
     lent: &mut [u8],
 ) -> Answer {
-    output::fill(lent);
     let tenant = short_of(numbers[3]);
     let profile = short_of(numbers[4]);
     let a = numbers[5];
@@ -24,6 +23,7 @@ pub fn answer<'a>(
         edition: numbers[11],
     };
     let by = checker::of_place(numbers[12]);
-    let written = shelf::hosted_receive(private, public, tenant, profile, a, terms, bits, by, lent);
-    output::answer(Shown::Octets, written, lent)
+    output::written(Shown::Octets, lent, |lent| {
+        shelf::hosted_receive(private, public, tenant, profile, a, terms, bits, by, lent)
+    })
 }

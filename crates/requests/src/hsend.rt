@@ -13,7 +13,6 @@ pub fn answer<'a>(
     block: &[u8],
     lent: &mut [u8],
 ) -> Answer {
-    output::fill(lent);
     let tenant = short_of(numbers[3]);
     let profile = short_of(numbers[4]);
     let terms = Terms {
@@ -23,6 +22,7 @@ pub fn answer<'a>(
         edition: numbers[11],
     };
     let g = CodedBits(numbers[8]);
-    let written = shelf::hosted_send(private, public, tenant, profile, block, terms, g, lent);
-    output::answer(Shown::Bits, written, lent)
+    output::written(Shown::Bits, lent, |lent| {
+        shelf::hosted_send(private, public, tenant, profile, block, terms, g, lent)
+    })
 }

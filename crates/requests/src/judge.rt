@@ -3,5 +3,5 @@
 use crate::answers::Answer;
 
 pub fn answer(record: &[u8]) -> Answer {
-    Answer::Number(profile::judge(record))
+    Answer::Judged(profile::judge(record))
 }

@@ -4,7 +4,6 @@ ghost use Rattle.std.specs.Prelude.{◌≤◌, length};
 use crate::answers::Answer;
 use crate::names;
 use text::faults::Fault;
-use text::octets::find;
 
 // Of a line that is too long only the start is here, and a comment has no answer even then.
 pub fn answer(
@@ -20,74 +19,58 @@ pub fn answer(
     if long {
         return Answer::Error(Fault::Long);
     }
-    let n = without_spaces(line, line.len());
-    let answer = of_request(&line[0..n], records, bits, lent);
+    let request = without_spaces(line);
+    let answer = of_request(request, records, bits, lent);
     if let Answer::Error(_) = answer {
-        return with_comment(line, n, answer, records, bits, lent);
+        return with_comment(request, answer, records, bits, lent);
     }
     answer
 }
 
-// The answer to a line of which n octets were answered with an error. No word of a request begins
-// with #, so a line that is a request has no comment, and one is looked for here only.
+// The answer to a line that was answered with an error. No word of a request begins with #, so a
+// line that is a request has no comment, and one is looked for here only.
 fn with_comment(
     line: &[u8],
-    n: usize,
     answer: Answer,
     records: &mut [u8],
     bits: &mut [u8],
     lent: &mut [u8],
 ) -> Answer {
-    let m = without_spaces(line, before_comment(line));
-    if m == n {
+    let request = without_spaces(before_comment(line));
+    if request.len() == line.len() {
         return answer;
     }
-    of_request(&line[0..m], records, bits, lent)
+    of_request(request, records, bits, lent)
 }
 
 fn of_request(request: &[u8], records: &mut [u8], bits: &mut [u8], lent: &mut [u8]) -> Answer {
-    if request.len() == 0 {
+    if request.is_empty() {
         return Answer::Nothing;
     }
     names::answer(request, records, bits, lent)
 }
 
 fn is_comment(line: &[u8]) -> bool {
-    if line.len() == 0 {
-        return false;
-    }
-    line[0] == b'#'
+    line.starts_with(b"#")
 }
 
-// A comment behind a request begins with the first space that a # follows.
-fn before_comment(line: &[u8]) -> usize
-    ensures { result ≤ length line.now }
+// A comment behind a request begins with the first space that a # follows. Most lines have no #, which is
+// quickly seen.
+fn before_comment(line: &[u8]) -> &[u8]
+    ensures { length result.now ≤ length line.now }
 {
-    let mut at = 1;
-    while at < line.len() {
-        let i = find(line, at, b'#');
-        if i == line.len() {
-            return i;
-        }
-        if line[i - 1] == b' ' {
-            return i - 1;
-        }
-        at = i + 1;
+    if !line.contains(&b'#') {
+        return line;
     }
-    line.len()
+    match line.windows(2).position(|pair| pair == b" #".as_slice()) {
+        Some(n) => &line[..n],
+        None => line,
+    }
 }
 
-// Where the spaces before `end` begin.
-fn without_spaces(line: &[u8], end: usize) -> usize
-    requires { end ≤ length line.now }
-    ensures { result ≤ end }
-{
-    let mut n = end;
-    while n > 0 {
-        if line[n - 1] != b' ' {
-            return n;
-        }
-        n -= 1;
+fn without_spaces(line: &[u8]) -> &[u8] {
+    match line.iter().rposition(|x| *x != b' ') {
+        Some(last) => &line[..last + 1],
+        None => &[],
     }
-    n
 }

@@ -1,8 +1,6 @@
 // The output that is lent to a call, and whether the call kept to it.
-ghost use Rattle.std.specs.Prelude.{◌≤◌, length};
-
 use crate::answers::Answer;
-use bits::number::{DONE, Written};
+use bits::number::Refusal;
 use text::faults::Fault;
 use text::shown;
 use text::shown::Shown;
@@ -11,72 +9,50 @@ use text::shown::Shown;
 const FILLED: u8 = 0xA5;
 
 pub fn fill(lent: &mut [u8]) {
-    let mut i = 0;
-    while i < lent.len() {
-        lent[i] = FILLED;
-        i += 1;
-    }
+    lent.fill(FILLED);
 }
 
 // No turn leaves early, so that many octets are compared at once.
 fn is_filled(part: &[u8]) -> bool {
     let mut other = 0u8;
-    let mut i = 0;
-    while i < part.len() {
-        other = other | (part[i] ^ FILLED);
-        i += 1;
+    for x in part {
+        other |= *x ^ FILLED;
     }
     other == 0
 }
 
-// The answer for what a call wrote. The call's promise is tested here and not relied on.
-pub fn answer(shown: Shown, written: Written, lent: &[u8]) -> Answer {
-    if is_kept(shown, written, lent) {
-        return Answer::Written {
-            shown,
-            number: written.number,
-            count: written.count,
-        };
+// The answer for what a call writes into the output that is lent. The call's promise is tested here and not relied on.
+pub fn written<F: FnOnce(&mut [u8]) -> Result<usize, Refusal>>(
+    shown: Shown,
+    lent: &mut [u8],
+    call: F,
+) -> Answer
+    requires { F.IsAlwaysCallable call }
+{
+    fill(lent);
+    let count = call(lent);
+    if !is_kept(shown, count.unwrap_or(0), lent) {
+        return Answer::Error(Fault::Output);
     }
-    Answer::Error(Fault::Output)
+    Answer::Written(shown, count)
 }
 
-// Whether a call counts no octet that it was not lent, wrote none that cannot be shown, and left those behind its count.
-pub fn is_kept(shown: Shown, written: Written, lent: &[u8]) -> bool {
-    let n = written.count;
-    if n > most(written.number, lent) {
+// Whether a call counts no octet that it was not lent, wrote none that cannot be shown, and left those behind its count. A refusal counts nothing.
+pub fn is_kept(shown: Shown, count: usize, lent: &[u8]) -> bool {
+    if count > lent.len() {
         return false;
     }
-    if largest(&lent[0..n]) > shown::largest(shown) {
+    if largest(&lent[..count]) > shown::largest(shown) {
         return false;
     }
-    is_filled(&lent[n..])
+    is_filled(&lent[count..])
 }
 
 // The largest octet, and 0 of none.
 fn largest(part: &[u8]) -> u8 {
     let mut most = 0u8;
-    let mut i = 0;
-    while i < part.len() {
-        most = greater(most, part[i]);
-        i += 1;
+    for x in part {
+        most = most.max(*x);
     }
     most
-}
-
-fn greater(a: u8, b: u8) -> u8 {
-    if a < b {
-        return b;
-    }
-    a
-}
-
-// A refusal counts nothing.
-fn most(number: u32, lent: &[u8]) -> usize
-    ensures { result ≤ length lent.now }
-{
-    if number == DONE {
-        return lent.len();
-    }
-    0
 }

@@ -6,9 +6,9 @@ use text::shown::Shown;
 use text::values::short_of;
 
 pub fn answer(numbers: &[usize; WORDS], private: &[u8], added: &[u8], lent: &mut [u8]) -> Answer {
-    output::fill(lent);
     let tenant = short_of(numbers[2]);
     let profile = short_of(numbers[3]);
-    let written = keeping::put_record(private, tenant, profile, added, lent);
-    output::answer(Shown::Octets, written, lent)
+    output::written(Shown::Octets, lent, |lent| {
+        keeping::put_record(private, tenant, profile, added, lent)
+    })
 }

@@ -6,8 +6,8 @@ use text::forms::WORDS;
 use text::shown::Shown;
 
 pub fn answer(numbers: &[usize; WORDS], places: &[u8], lent: &mut [u8]) -> Answer {
-    output::fill(lent);
     let e = CodedBits(numbers[1]);
-    let written = matching::rate_match(places, numbers[4], numbers[5], e, lent);
-    output::answer(Shown::Bits, written, lent)
+    output::written(Shown::Bits, lent, |lent| {
+        matching::rate_match(places, numbers[4], numbers[5], e, lent)
+    })
 }

@@ -6,7 +6,6 @@ use text::forms::WORDS;
 use text::shown::Shown;
 
 pub fn answer(numbers: &[usize; WORDS], record: &[u8], bits: &[u8], lent: &mut [u8]) -> Answer {
-    output::fill(lent);
     let a = numbers[2];
     let terms = Terms {
         nl: numbers[3],
@@ -15,6 +14,7 @@ pub fn answer(numbers: &[usize; WORDS], record: &[u8], bits: &[u8], lent: &mut [
         edition: numbers[8],
     };
     let by = checker::of_place(numbers[9]);
-    let written = coding::receive(record, a, terms, bits, by, lent);
-    output::answer(Shown::Octets, written, lent)
+    output::written(Shown::Octets, lent, |lent| {
+        coding::receive(record, a, terms, bits, by, lent)
+    })
 }

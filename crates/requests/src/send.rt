@@ -6,7 +6,6 @@ use text::forms::WORDS;
 use text::shown::Shown;
 
 pub fn answer(numbers: &[usize; WORDS], record: &[u8], block: &[u8], lent: &mut [u8]) -> Answer {
-    output::fill(lent);
     let terms = Terms {
         nl: numbers[3],
         qm: numbers[4],
@@ -14,6 +13,7 @@ pub fn answer(numbers: &[usize; WORDS], record: &[u8], block: &[u8], lent: &mut 
         edition: numbers[8],
     };
     let g = CodedBits(numbers[5]);
-    let written = coding::send(record, block, terms, g, lent);
-    output::answer(Shown::Bits, written, lent)
+    output::written(Shown::Bits, lent, |lent| {
+        coding::send(record, block, terms, g, lent)
+    })
 }

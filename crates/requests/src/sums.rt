@@ -5,7 +5,7 @@ use text::forms::WORDS;
 use text::shown::Shown;
 
 pub fn answer(numbers: &[usize; WORDS], record: &[u8], bits: &[u8], lent: &mut [u8]) -> Answer {
-    output::fill(lent);
-    let written = checking::row_sums(record, numbers[2], bits, lent);
-    output::answer(Shown::Places, written, lent)
+    output::written(Shown::Places, lent, |lent| {
+        checking::row_sums(record, numbers[2], bits, lent)
+    })
 }

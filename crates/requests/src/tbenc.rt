@@ -4,7 +4,5 @@ use crate::output;
 use text::shown::Shown;
 
 pub fn answer(word: &[u8], lent: &mut [u8]) -> Answer {
-    output::fill(lent);
-    let written = control::code_word(word, lent);
-    output::answer(Shown::Bits, written, lent)
+    output::written(Shown::Bits, lent, |lent| { control::code_word(word, lent) })
 }

@@ -6,8 +6,8 @@ use text::forms::WORDS;
 use text::shown::Shown;
 
 pub fn answer(numbers: &[usize; WORDS], streams: &[u8], lent: &mut [u8]) -> Answer {
-    output::fill(lent);
     let e = CodedBits(numbers[3]);
-    let written = control::match_streams(numbers[1], streams, e, lent);
-    output::answer(Shown::Bits, written, lent)
+    output::written(Shown::Bits, lent, |lent| {
+        control::match_streams(numbers[1], streams, e, lent)
+    })
 }

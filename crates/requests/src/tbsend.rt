@@ -6,8 +6,8 @@ use text::forms::WORDS;
 use text::shown::Shown;
 
 pub fn answer(numbers: &[usize; WORDS], word: &[u8], lent: &mut [u8]) -> Answer {
-    output::fill(lent);
     let e = CodedBits(numbers[2]);
-    let written = control::send_word(word, e, lent);
-    output::answer(Shown::Bits, written, lent)
+    output::written(Shown::Bits, lent, |lent| {
+        control::send_word(word, e, lent)
+    })
 }

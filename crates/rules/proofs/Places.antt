@@ -1,15 +1,15 @@
 -- Laws of the places where rules are broken: of the rules of a header, of those of a table, and of the answers as a whole.
-use mathlib.Core.Path.{◌≡◌, refl, sym, ap, ◌∙◌, fun_ext}
+use mathlib.Core.Path.{◌≡◌, sym, ap, ◌∙◌, fun_ext}
 use mathlib.Core.Bool.{Bool, true}
 use mathlib.Core.List.{List}
-use Prim.Native.Nat.{ℕ, zero, suc, ◌+◌, ◌-◌, ◌*◌, ◌/◌, ◌%◌, ◌≤◌, ◌<◌}
+use Prim.Native.Nat.{ℕ, suc, ◌+◌, ◌-◌, ◌*◌, ◌/◌, ◌%◌, ◌≤◌, ◌<◌}
 use native.Mathlib.Omega.{arith}
 use lib.Dec.{eqb}
 use lib.ListN.{length, get_or}
 use borrow.Author.Tests.{lt-leb, ne_eqb}
 use Rattle.bits.specs.Ranges.{first_below}
 use Rattle.bits.proofs.Ranges.{below_or, any_none, first-none, first-is}
-use Rattle.profile.specs.Record.{kb, m, x, t, z, columns, table_size, table, entry, empty, offset, shift_right, table_right}
+use Rattle.profile.specs.Record.{kb, m, x, t, columns, table, entry, empty, offset, table_right}
 use Rattle.profile.specs.Staircase.{filled}
 use Rattle.profile.specs.Steps.Walk.{column, NextFilled, empty_from}
 use Rattle.profile.specs.Steps.Shape.{shape_right}
@@ -66,36 +66,7 @@ record_told R r told =
       inside = told.inside;
     }
 
--- ---- the rules of a header
-
-by_header : (P : ℕ → Type 0) → P 2 → P 3 → P 4 → P 5 → P 6 → P 7 → P 8 → (n : ℕ) → 2 ≤ n → n ≤ 8 → P n
-by_header P a b c d e f g zero l h = absurd (omega arith)
-by_header P a b c d e f g (suc zero) l h = absurd (omega arith)
-by_header P a b c d e f g (suc (suc zero)) l h = a
-by_header P a b c d e f g (suc (suc (suc zero))) l h = b
-by_header P a b c d e f g (suc (suc (suc (suc zero)))) l h = c
-by_header P a b c d e f g (suc (suc (suc (suc (suc zero))))) l h = d
-by_header P a b c d e f g (suc (suc (suc (suc (suc (suc zero)))))) l h = e
-by_header P a b c d e f g (suc (suc (suc (suc (suc (suc (suc zero))))))) l h = f
-by_header P a b c d e f g (suc (suc (suc (suc (suc (suc (suc (suc zero)))))))) l h = g
-by_header P a b c d e f g (suc (suc (suc (suc (suc (suc (suc (suc (suc n))))))))) l h = absurd (omega arith)
-
 module _ (R : List ℕ) where
-  -- they are about no entry
-  pub header-entry : (n : ℕ) → 2 ≤ n → n ≤ 8 → (0 ≡ record_table R n) × (0 ≡ record_row R n) × (0 ≡ record_column R n)
-  unfolding place_of table_row table_column record_table record_row record_column
-  header-entry =
-      by_header (λ n. (0 ≡ record_table R n) × (0 ≡ record_row R n) × (0 ≡ record_column R n)) (refl, refl, refl) (refl, refl, refl) (refl, refl, refl)
-      (refl, refl, refl) (refl, refl, refl) (refl, refl, refl) (refl, refl, refl)
-
-  -- three of them are about x
-  pub header-rest : (n : ℕ) → 2 ≤ n → n ≤ 8 → (n ≡ 2 → ⊥) → (n ≡ 3 → ⊥) → (n ≡ 6 → ⊥) → (n ≡ 8 → ⊥) → record_at R n ≡ 4
-  unfolding place_of record_at
-  header-rest =
-      by_header (λ n. (n ≡ 2 → ⊥) → (n ≡ 3 → ⊥) → (n ≡ 6 → ⊥) → (n ≡ 8 → ⊥) → record_at R n ≡ 4)
-      (λ a b c d. absurd (a refl)) (λ a b c d. absurd (b refl)) (λ a b c d. refl) (λ a b c d. refl) (λ a b c d. absurd (c refl)) (λ a b c d. refl)
-      (λ a b c d. absurd (d refl))
-
   -- ---- the rules of a table
 
   module _ (n : ℕ) (l : 16 ≤ n) (i : ℕ) (is : i ≡ first_not (t R) (stairs R)) where
@@ -125,10 +96,6 @@ module _ (R : List ℕ) where
     pub over-column : record_column R 15 ≡ entry_over R i % columns R
     unfolding record_column
     over-column = rw over-table
-
-  pub over-is : (i k : ℕ) → k ≡ first_not (table_size R) (λ j. shift_right (z R i) (get_or (table R i) j 0)) → k ≡ entry_over R i
-  unfolding entry_over
-  over-is i k e = e
 
   -- ---- what is told of an entry
 

@@ -7,6 +7,8 @@ use native.Mathlib.Nat.{mul-le-mul}
 use native.Mathlib.Omega.{arith}
 use lib.Dec.{eqb}
 use lib.ListN.{length, get_or}
+use Rattle.std.specs.Prelude.{Option, Some, None}
+use Rattle.std.specs.List.{position}
 use borrow.Author.Tests.{ltb-false, not-false, lt-ltb, le-ltb, le-leb, lt-leb, eq-eqb, ne_eqb}
 use Rattle.bits.specs.Numbers.{answered}
 use Rattle.bits.specs.Ranges.{all_below, within}
@@ -19,9 +21,12 @@ use Rattle.profile.specs.Steps.Shape.{front_right, size_right, shape_right}
 use Rattle.profile.proofs.Shape.{rows_is, area-is, Header, header_is, size-third, shape-third, shape_is, table-long, formed-is}
 use Rattle.rules.specs.declared.pairs.Sizes.{Sizes}
 use Rattle.rules.specs.Rules.{or_else, first_not, linked, header_rules, pair_rules, form_rules, table_rule, stairs, stair_rule, record_rule, number_of}
-use Rattle.rules.specs.Steps.Sizes.{SizesOf}
-use Rattle.rules.proofs.Firsts.{first-fails, first_below}
-use Rattle.rules.proofs.Lists.{ranged, answered-most, answered-least, or_first, or_later}
+use Rattle.rules.specs.Steps.Walks.{TestWith}
+use Rattle.rules.specs.Steps.Sizes.{SizesOf, SpotOf, OverIn, StairsIn}
+use Rattle.rules.specs.declared.stairs.Spot.{Spot}
+use Rattle.rules.specs.Places.{entry_over}
+use Rattle.rules.proofs.Firsts.{first-fails, first_below, first-position, not-with, not_not}
+use Rattle.rules.proofs.Lists.{ranged, answered-most, or_first, or_later}
 use Rattle.rules.proofs.Staircase.{table_none, table-most, table-least}
 
 module _ (R : List ℕ) where
@@ -83,11 +88,6 @@ module _ (R : List ℕ) where
   header-refusals : Refusals heads
   unfolding Refusals
   header-refusals = tt
-
-  pub header-range : (n : ℕ) → n ≡ answered heads → (n ≡ 0 → ⊥) → (2 ≤ n) × (n ≤ 8)
-  unfolding ranged
-  header-range n e d =
-      (omega (arith, e, answered-least 2 8 heads refl (λ q. d (e ∙ q))), omega (arith, e, answered-most 2 8 heads refl))
 
   -- the rule of a record that has a header: the header's, or else the rest's
   pub header-first : 10 ≤ length R → (n : ℕ) → n ≡ answered heads → (n ≡ 0 → ⊥) → n ≡ record_rule R
@@ -191,7 +191,7 @@ module _ (R : List ℕ) where
   unfolding staircases stairs
   stairs-is = refl
 
-  abbrev rule_of : ℕ → ℕ
+  abbrev pub rule_of : ℕ → ℕ
   rule_of i = table_rule (table R i) (kb R) (m R) (x R) (columns R)
 
   pub stairs-test : (i : ℕ) → eqb (rule_of i) 0 ≡ stairs R i
@@ -310,5 +310,14 @@ module _ (R : List ℕ) where
       table-length = table-long R (shape_is R shape) i (omega (arith, n.t_is)) ∙ sym n.size_is
 
 -- the walk of a table as the code makes it
-pub over-same : (n : ℕ) {r v w : ℕ} {T U : List ℕ} → v ≡ w → T ≡ U → r ≡ first_not n (λ k. shift_right v (get_or T k 0)) → r ≡ first_not n (λ k. shift_right w (get_or U k 0))
-over-same n e f q = rw (← e, ← f) q
+pub over-with : (R : List ℕ) (i : ℕ) {v : ℕ} {T : List ℕ} → v ≡ z R i → T ≡ table R i → length (table R i) ≡ table_size R
+    → (r : Option ℕ) → r ≡ position (λ x. not (shift_right v x)) T → TestWith (table_right R i) (OverIn R i) r
+unfolding table_right entry_over
+over-with R i e f l r q =
+    not-with (table_size R) (λ k. shift_right (z R i) (get_or (table R i) k 0)) r
+    (first-position (table_size R) (λ k. shift_right (z R i) (get_or (table R i) k 0)) (λ x. not (shift_right (z R i) x)) (table R i) l
+    (λ k m. not_not (shift_right (z R i) (get_or (table R i) k 0))) r (rw (← e, ← f) q))
+
+pub stairs-with : (R : List ℕ) (i : ℕ) (r : Option Spot) → SpotOf (table R i) (kb R) (m R) (x R) (columns R) (rule_of R i) r → TestWith (stairs R i) (StairsIn R i) r
+stairs-with R i (Some r) h = (sym (stairs-test R i) ∙ ne_eqb (rule_of R i) 0 (λ q. omega (arith, h.first, h.late, q)), h)
+stairs-with R i None h = sym (stairs-test R i) ∙ eq-eqb (rule_of R i) 0 h

@@ -1,34 +1,37 @@
 -- The rules of a shelf are those of a well-formed one, and what its entries are due.
-use mathlib.Core.Path.{◌≡◌, refl, ap, ◌∙◌}
-use mathlib.Core.Bool.{Bool, true, false, ◌&&◌, ◌||◌}
+use mathlib.Core.Path.{◌≡◌, refl, sym, ap, ◌∙◌}
+use mathlib.Core.Bool.{Bool, true, false}
 use mathlib.Core.List.{List}
 use Prim.Native.Nat.{ℕ, zero, suc, ◌+◌, ◌-◌, ◌*◌}
 use native.Mathlib.Numerals.{sub-one}
 use native.Mathlib.Omega.{arith}
-use lib.Dec.{eqb, ltb}
+use lib.Dec.{eqb, leb, ltb}
 use lib.ListN.{length}
-use borrow.Author.Tests.{ltb-false, eqb-true, not-false, le-ltb, eq-eqb, ne_eqb}
+use borrow.Author.Tests.{ltb-false, eqb-true, not-false, le-leb, lt-leb, lt-ltb, le-ltb, eq-eqb, ne_eqb}
+use Rattle.bits.specs.Bits.{AreOctets}
 use Rattle.bits.specs.Numbers.{answered}
 use Rattle.bits.proofs.Answers.{passed}
-use Rattle.bits.proofs.Ranges.{either_way, all-at, all_of}
-use Rattle.shelf.specs.Shelf.{count, tenant, profile, offset, size, rises, offset_due, chained, ends_right, tenant_right, well_formed}
-use Rattle.shelf.proofs.WellFormed.{Formed, formed-is, is-formed}
+use Rattle.bits.proofs.Ranges.{below_or, either_way, all-at, all_of}
+use Rattle.shelf.specs.Shelf.{count, tenant, offset, rises, offset_due, chained, ends_right, tenant_right, well_formed}
+use Rattle.shelf.specs.Steps.Walking.{pair, least_pair}
+use Rattle.shelf.proofs.WellFormed.{Formed, formed-is, is-formed, rises-carried}
 use Rattle.rules.specs.Rules.{shelf_rules, shelf_rule}
 use Rattle.rules.proofs.Firsts.{all_first}
 
 module _ (S : List ℕ) where
   -- ---- an entry behind the first
 
-  pub rises-later : (k : ℕ) → (k ≡ 0 → ⊥)
-      → rises S k ≡ ltb (tenant S (k - 1)) (tenant S k) || (eqb (tenant S (k - 1)) (tenant S k) && ltb (profile S (k - 1)) (profile S k))
+  pub rises-first : (k : ℕ) → k ≡ 0 → rises S k ≡ true
   unfolding rises
-  rises-later zero n = absurd (n refl)
-  rises-later (suc k) n = rw sub-one
+  rises-first k e = rw e
 
-  pub due-later : (k : ℕ) → (k ≡ 0 → ⊥) → offset_due S k ≡ offset S (k - 1) + size S (k - 1)
-  unfolding offset_due
-  due-later zero n = absurd (n refl)
-  due-later (suc k) n = rw sub-one
+  pub rises-later : AreOctets S → (k : ℕ) → (k ≡ 0 → ⊥) → rises S k ≡ ltb (pair S (k - 1)) (pair S k)
+  unfolding least_pair
+  rises-later octets zero n = absurd (n refl)
+  rises-later octets (suc k) n = rises-carried S octets (suc k) ∙ rw sub-one (by_order (pair S k) (pair S (suc k)))
+    where
+      by_order : (a b : ℕ) → leb (suc a) b ≡ ltb a b
+      by_order a b = below_or a b (λ l. le-leb (suc a) b (omega arith) ∙ sym (lt-ltb a b l)) (λ m. lt-leb (suc a) b (omega arith) ∙ sym (le-ltb a b m))
 
   -- ---- the end
 

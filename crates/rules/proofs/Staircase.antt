@@ -1,20 +1,30 @@
 -- The rules of a table are those of a staircase with its extension, and where the entries that the code reads stand.
-use mathlib.Core.Path.{◌≡◌, refl, sym, ◌∙◌}
-use mathlib.Core.Bool.{Bool, true, false, not, ◌&&◌, ◌||◌}
+use mathlib.Core.Path.{◌≡◌, refl, sym, ap, subst, ◌∙◌}
+use Rattle.std.specs.Prelude.{Option}
+use Rattle.std.specs.List.{position}
+use Rattle.std.proofs.lemmas.Grind.{common_steps}
+use Rattle.std.proofs.lemmas.List.{get_or-take, get_or-drop}
+use native.Mathlib.Omega.{arith}
+use mathlib.Core.Bool.{Bool, true, false, cond, not, ◌&&◌, ◌||◌}
 use mathlib.Core.List.{List, [], ◌∷◌, ◌++◌}
 use Prim.Native.Nat.{ℕ, suc, ◌+◌, ◌-◌, ◌*◌, ◌≤◌, ◌<◌}
-use lib.Dec.{eqb, leb}
-use lib.ListN.{get_or}
-use borrow.Author.Tests.{leb-false, eq-eqb, ne_eqb}
+use lib.Dec.{eqb}
+use lib.ListN.{length, take, drop, get_or}
+use borrow.Author.Tests.{eq-eqb, ne_eqb}
 use Rattle.bits.specs.Numbers.{answered}
 use Rattle.bits.specs.Ranges.{all_below}
 use Rattle.bits.proofs.Answers.{first_part, Refusals, last_part}
 use Rattle.profile.specs.Record.{entry}
 use Rattle.profile.specs.Staircase.{filled, filled_between, first_column, next_column, staircase, row_ends, extension_row, extended}
 use Rattle.profile.specs.Steps.Walk.{column, next_right, empty_from}
-use Rattle.profile.proofs.Extension.{ends_at, extension-first, extension-second}
+use Rattle.profile.proofs.Extension.{ends_at, extension_at}
+use Rattle.rules.specs.declared.stairs.Spot.{Spot}
+use Rattle.rules.specs.Faults.{record_number}
+use Rattle.rules.specs.Places.{place_of, filled_column, table_row, table_column}
+use Rattle.rules.specs.Steps.Walks.{FirstNot}
+use Rattle.rules.specs.Steps.Sizes.{Spotted, SpotOf, ExtensionSpot}
 use Rattle.rules.specs.Rules.{first_not, own_zero, first_rules, extension_rules, stair_rules, table_rule}
-use Rattle.rules.proofs.Firsts.{first-some-not, first-test}
+use Rattle.rules.proofs.Firsts.{first-some-not, first-position, not_not}
 use Rattle.rules.proofs.Lists.{ranged, answered-most, answered-least}
 
 -- no rule is broken exactly where all tests hold; o tells only 23 from 24
@@ -55,35 +65,38 @@ module _ (T : List ℕ) (kb m x columns : ℕ) where
   table-least n = answered-least 16 24 (first_rules m C ++ stair_rules T kb m x columns) refl n
 
   -- the rules of column kb go before the others
-  pub table-first : (n : ℕ) → n ≡ answered (first_rules m C) → (n ≡ 0 → ⊥) → n ≡ table_rule T kb m x columns
+  table-first : (n : ℕ) → n ≡ answered (first_rules m C) → (n ≡ 0 → ⊥) → n ≡ table_rule T kb m x columns
   unfolding table_rule
   table-first n e d = e ∙ sym (first_part (first_rules m C) (stair_rules T kb m x columns) (λ q. d (e ∙ q)))
 
-  pub table-later : (n : ℕ) → answered (first_rules m C) ≡ 0 → n ≡ answered (stair_rules T kb m x columns) → n ≡ table_rule T kb m x columns
+  table-later : (n : ℕ) → answered (first_rules m C) ≡ 0 → n ≡ answered (stair_rules T kb m x columns) → n ≡ table_rule T kb m x columns
   unfolding table_rule Refusals
   table-later n z e = e ∙ sym (last_part (first_rules m C) (stair_rules T kb m x columns) tt z)
 
+  pub table-spotted : (r : Spot) → Spotted T kb m x columns (answered (first_rules m C)) r → Spotted T kb m x columns (table_rule T kb m x columns) r
+  table-spotted r s =
+      record {
+        first = table-first (record_number r.rule) s.first (λ z. omega (arith, s.late, z));
+        row_is = s.row_is;
+        column_is = s.column_is;
+        inside = s.inside;
+        late = s.late;
+      }
+
+  pub table-unspotted : (r : Option Spot) → answered (first_rules m C) ≡ 0 → SpotOf T kb m x columns (answered (stair_rules T kb m x columns)) r
+      → SpotOf T kb m x columns (table_rule T kb m x columns) r
+  table-unspotted r z h = subst (λ (n : ℕ). SpotOf T kb m x columns n r) (table-later (answered (stair_rules T kb m x columns)) z refl) h
+
   -- ---- the columns after column kb
 
-  column_is : (i : ℕ) → next_column m (suc i) (column T columns (kb + suc i)) ≡ all_below m (λ row. next_right T kb columns row i)
+  pub column_is : (i : ℕ) → all_below m (λ row. next_right T kb columns row i) ≡ next_column m (suc i) (column T columns (kb + suc i))
   unfolding next_column next_right
   column_is i = refl
 
-  module _ (i row : ℕ) (is : row ≡ first_not m (λ r. next_right T kb columns r i)) where
-    pub column-test : leb m row ≡ next_column m (suc i) (column T columns (kb + suc i))
-    column-test = first-test m (λ r. next_right T kb columns r i) is ∙ sym (column_is i)
-
-    pub column-row : next_column m (suc i) (column T columns (kb + suc i)) ≡ false → row < m
-    column-row e = leb-false m row (column-test ∙ e)
-
   -- ---- the extension columns of a staircase row
 
-  module _ (row k : ℕ) (is : k ≡ first_not x (empty_from T (row * columns + (kb + m)))) where
-    pub ends-test : leb x k ≡ row_ends T kb m x columns row
-    ends-test = ends_at T kb m x columns row (first-test x (empty_from T (row * columns + (kb + m))) is) refl refl
-
-    pub ends-place : row_ends T kb m x columns row ≡ false → k < x
-    ends-place e = leb-false x k (ends-test ∙ e)
+  pub row-is : (row : ℕ) → all_below x (empty_from T (row * columns + (kb + m))) ≡ row_ends T kb m x columns row
+  row-is row = ends_at T kb m x columns row refl refl refl
 
   -- ---- an extension row
 
@@ -91,28 +104,68 @@ module _ (T : List ℕ) (kb m x columns : ℕ) where
   own i = (m + i) * columns + (kb + (m + i))
 
   module _ (i : ℕ) (l : i < x) where
-    pub own-wrong : (get_or T (own i) 0 ≡ 0 → ⊥) → false ≡ extension_row T kb m x columns i
-    own-wrong n = extension-first T kb m x columns i l refl n
+    pub own-wrong : (get_or T (own i) 0 ≡ 0 → ⊥) → (extension_row T kb m x columns i ≡ false) × (own_zero T kb m columns i ≡ false)
+    unfolding own_zero entry
+    own-wrong n = let off = ne_eqb (get_or T (own i) 0) 0 n in (rw (extension_at T kb m x columns i l, off), off)
 
-    module _ (z : get_or T (own i) 0 ≡ 0) (k : ℕ) (is : k ≡ first_not (x - (i + 1)) (empty_from T (own i + 1))) where
-      pub later-test : leb (x - (i + 1)) k ≡ extension_row T kb m x columns i
-      later-test = extension-second T kb m x columns i l refl z (first-test (x - (i + 1)) (empty_from T (own i + 1)) is) refl refl
+    module _ (z : get_or T (own i) 0 ≡ 0) where
+      pub own-right : own_zero T kb m columns i ≡ true
+      unfolding own_zero entry
+      own-right = eq-eqb (get_or T (own i) 0) 0 z
 
-      pub later-place : extension_row T kb m x columns i ≡ false → k < x - (i + 1)
-      later-place e = leb-false (x - (i + 1)) k (later-test ∙ e)
+      pub later-is : all_below (x - (i + 1)) (empty_from T (own i + 1)) ≡ extension_row T kb m x columns i
+      later-is = sym (rw (extension_at T kb m x columns i l, eq-eqb (get_or T (own i) 0) 0 z))
 
   abbrev right : ℕ → Bool
   right = extension_row T kb m x columns
 
-  pub extension-none : all_below x right ≡ true → 0 ≡ answered (extension_rules T kb m x columns)
+  pub extension-none : all_below x right ≡ true → answered (extension_rules T kb m x columns) ≡ 0
   unfolding answered
   extension-none e = rw e
 
-  module _ (i : ℕ) (is : i ≡ first_not x right) (l : i < x) where
-    pub extension-own : (get_or T (own i) 0 ≡ 0 → ⊥) → 23 ≡ answered (extension_rules T kb m x columns)
-    unfolding answered own_zero entry
-    extension-own n = rw (first-some-not x right is l, ← is, ne_eqb (get_or T (own i) 0) 0 n)
+  pub extension-some : (i : ℕ) → i ≡ first_not x right → i < x → answered (extension_rules T kb m x columns) ≡ cond (own_zero T kb m columns i) 24 23
+  unfolding answered
+  extension-some i is l = rw (first-some-not x right is l, ← is) (by_own (own_zero T kb m columns i))
+    where
+      by_own : (b : Bool) → ◌≡◌ {A = ℕ} (cond (true && not b) 23 (cond true 24 0)) (cond b 24 23)
+      by_own true = refl
+      by_own false = refl
 
-    pub extension-later : get_or T (own i) 0 ≡ 0 → 24 ≡ answered (extension_rules T kb m x columns)
-    unfolding answered own_zero entry
-    extension-later z = rw (first-some-not x right is l, ← is, eq-eqb (get_or T (own i) 0) 0 z)
+  -- what is wrong in the first row that is, is what is wrong with the extension
+  pub extension-spotted : (i : ℕ) → i ≡ first_not x right → i < x → (r : Spot) → ExtensionSpot T kb m x columns i r
+      → Spotted T kb m x columns (answered (extension_rules T kb m x columns)) r
+  unfolding place_of table_row table_column
+  extension-spotted i is l r s =
+      let told = extension-some i is l in
+      by_own (own_zero T kb m columns i) (s.rule_is ∙ sym told) s.rule_is s.column_is
+    where
+      by_own : (b : Bool) → record_number r.rule ≡ answered (extension_rules T kb m x columns) → record_number r.rule ≡ cond b 24 23
+          → r.column ≡ cond b (filled_column T columns (m + i) (kb + (m + i) + 1) (x - (i + 1))) (kb + (m + i))
+          → Spotted T kb m x columns (answered (extension_rules T kb m x columns)) r
+      by_own true first e c =
+          record {
+            first = first;
+            row_is = s.row_is ∙ ap (λ (j : ℕ). m + j) is ∙ sym (ap (table_row T kb m x columns) e);
+            column_is = c ∙ ap (λ (j : ℕ). filled_column T columns (m + j) (kb + (m + j) + 1) (x - (j + 1))) is ∙ sym (ap (table_column T kb m x columns) e);
+            inside = s.inside;
+            late = omega (arith, e);
+          }
+      by_own false first e c =
+          record {
+            first = first;
+            row_is = s.row_is ∙ ap (λ (j : ℕ). m + j) is ∙ sym (ap (table_row T kb m x columns) e);
+            column_is = c ∙ ap (λ (j : ℕ). kb + (m + j)) is ∙ sym (ap (table_column T kb m x columns) e);
+            inside = s.inside;
+            late = omega (arith, e);
+          }
+
+-- ---- the first entry that is filled, of n from `from` on
+
+pub filled-first : (T : List ℕ) (from n : ℕ) → from + n ≤ length T → (r : Option ℕ)
+    → r ≡ position (λ x. not (eqb x 255)) (take (from + n - from) (drop from T)) → FirstNot n (empty_from T from) r
+unfolding empty_from
+filled-first T from n l r e =
+    first-position n (empty_from T from) (λ x. not (eqb x 255)) (take (from + n - from) (drop from T)) (grind (arith, common_steps))
+    (λ k m. not_not (eqb (get_or (take (from + n - from) (drop from T)) k 0) 255)
+    ∙ ap (λ (x : ℕ). eqb x 255) (get_or-take (from + n - from) (drop from T) k 0 (omega arith) ∙ get_or-drop from T k 0))
+    r e

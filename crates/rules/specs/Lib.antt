@@ -1,3 +1,4 @@
+pub mod Faults
 pub mod Rules
 pub mod Places
 pub mod Promises

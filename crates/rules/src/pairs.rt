@@ -3,11 +3,14 @@ ghost use Rattle.std.specs.Prelude.{◌≡◌, not, ◌&&◌, List, ℕ, ◌+◌
 ghost use Rattle.bits.specs.Numbers.{answered};
 ghost use Rattle.bits.specs.Ranges.{within};
 ghost use Rattle.profile.specs.Record.{z, rises};
-ghost use Rattle.rules.specs.Rules.{or_else, first_not, linked, header_rules, pair_rules, offset_rules, stair_rule, record_rule};
-ghost use Rattle.rules.specs.Places.{record_at};
-ghost use Rattle.rules.specs.Steps.Sizes.{SizesOf, PairsOf, RisingOf, Told};
+ghost use Rattle.rules.specs.Faults.{wrong};
+ghost use Rattle.rules.specs.Rules.{or_else, linked, header_rules, pair_rules, offset_rules, stair_rule, record_rule};
+ghost use Rattle.rules.specs.Steps.Walks.{FirstNot};
+ghost use Rattle.rules.specs.Steps.Sizes.{SizesOf, PairsOf, RisingOf, Told, HeaderOf};
 
-use crate::{Wrong, record_rule, tables};
+use crate::first::first_not;
+use crate::record_rule::Rule;
+use crate::{RecordFault, tables};
 
 // A record's numbers, with the columns and the octets of a table.
 #[derive(Clone, Copy)]
@@ -24,59 +27,49 @@ pub struct Sizes {
 fn is_type_1_extended(kind: usize, x: usize) -> bool
     ensures { result ≡ (eqb kind 1 && not (eqb x 0)) }
 {
-    if kind == 1 {
-        return x != 0;
-    }
-    false
+    kind == 1 && x != 0
 }
 
-// The rule that the header breaks first.
-fn header_rule(kb: usize, m: usize, x: usize, kind: usize, t: usize) -> usize
+// What is told of a rule that is about no table.
+pub fn of_whole(rule: Rule, at: usize) -> RecordFault
+    ensures { result ≡ record { rule = rule; table = 0; row = 0; column = 0; at = at } }
+{
+    RecordFault {
+        rule,
+        table: 0,
+        row: 0,
+        column: 0,
+        at,
+    }
+}
+
+// The rule that the header breaks first, with the octet of the number that it is about.
+fn header_fault(kb: usize, m: usize, x: usize, kind: usize, t: usize) -> Option<RecordFault>
     requires { m < 65536 }
-    ensures { result ≡ answered (header_rules kb m x kind t) }
+    ensures { HeaderOf (answered (header_rules kb m x kind t)) result }
 {
     if !bits::inner::is_within(1, 20, kb) {
-        return record_rule::KB;
+        return Some(of_whole(Rule::Kb, 0));
     }
     if !bits::inner::is_within(3, 12, m) {
-        return record_rule::M;
+        return Some(of_whole(Rule::M, 2));
     }
     if 37 < x {
-        return record_rule::X;
+        return Some(of_whole(Rule::X, 4));
     }
     if 40 < m + x {
-        return record_rule::ROWS;
+        return Some(of_whole(Rule::Rows, 4));
     }
     if !bits::inner::is_within(1, 2, kind) {
-        return record_rule::TYPE;
+        return Some(of_whole(Rule::Type, 6));
     }
     if is_type_1_extended(kind, x) {
-        return record_rule::TYPE_1_EXTENDED;
+        return Some(of_whole(Rule::Type1Extended, 4));
     }
     if !bits::inner::is_within(1, 3, t) {
-        return record_rule::T;
+        return Some(of_whole(Rule::T, 8));
     }
-    record_rule::NONE
-}
-
-// The octet of the number that a rule of the header is about.
-fn header_at(rule: usize) -> usize
-    requires { (2 ≤ rule) × (rule ≤ 8) }
-    ensures { ((R : List ℕ) → result ≡ record_at R rule) × (result ≤ 8) }
-{
-    if rule == record_rule::KB {
-        return 0;
-    }
-    if rule == record_rule::M {
-        return 2;
-    }
-    if rule == record_rule::TYPE {
-        return 6;
-    }
-    if rule == record_rule::T {
-        return 8;
-    }
-    4
+    None
 }
 
 // The columns and the octets of a table follow from the other numbers.
@@ -112,18 +105,11 @@ fn is_in_range(octets: &[u8], i: usize) -> bool
     bits::inner::is_within(1, 81, bits::inner::number_at(octets, 10 + 4 * i))
 }
 
-fn first_out(octets: &[u8], t: usize) -> usize
+fn first_out(octets: &[u8], t: usize) -> Option<usize>
     requires { 10 + 4 * t ≤ length octets.now }
-    ensures { result ≡ first_not t (λ i. within 1 81 (z octets.now i)) }
+    ensures { FirstNot t (λ i. within 1 81 (z octets.now i)) result }
 {
-    let mut i = 0;
-    while i < t {
-        if !is_in_range(octets, i) {
-            return i;
-        }
-        i += 1;
-    }
-    t
+    first_not(t, |i| is_in_range(octets, i))
 }
 
 // "strictly rising".
@@ -139,18 +125,11 @@ fn is_rising(octets: &[u8], i: usize) -> bool
     before < here
 }
 
-fn first_fall(octets: &[u8], t: usize) -> usize
+fn first_fall(octets: &[u8], t: usize) -> Option<usize>
     requires { 10 + 4 * t ≤ length octets.now }
-    ensures { result ≡ first_not t (rises octets.now) }
+    ensures { FirstNot t (rises octets.now) result }
 {
-    let mut i = 0;
-    while i < t {
-        if !is_rising(octets, i) {
-            return i;
-        }
-        i += 1;
-    }
-    t
+    first_not(t, |i| is_rising(octets, i))
 }
 
 fn is_linked(octets: &[u8], s: Sizes, i: usize) -> bool
@@ -161,106 +140,76 @@ fn is_linked(octets: &[u8], s: Sizes, i: usize) -> bool
     bits::inner::number_at(octets, 12 + 4 * i) == due
 }
 
-fn first_loose(octets: &[u8], s: Sizes, t: usize) -> usize
-    requires { PairsOf octets.now s × (t ≡ s.t) }
-    ensures { result ≡ first_not t (linked octets.now) }
+fn first_loose(octets: &[u8], s: Sizes) -> Option<usize>
+    requires { PairsOf octets.now s }
+    ensures { FirstNot s.t (linked octets.now) result }
 {
-    let mut i = 0;
-    while i < t {
-        if !is_linked(octets, s, i) {
-            return i;
-        }
-        i += 1;
-    }
-    t
+    first_not(s.t, |i| is_linked(octets, s, i))
 }
 
 // The rules of the offsets, and those behind them.
-fn of_offsets(octets: &[u8], s: Sizes) -> Wrong
+fn of_offsets(octets: &[u8], s: Sizes) -> Option<RecordFault>
     requires { RisingOf octets.now s }
-    ensures { Told octets.now (or_else (answered (offset_rules octets.now)) (stair_rule octets.now)) result }
+    ensures { Told octets.now (or_else (answered (offset_rules octets.now)) (stair_rule octets.now)) (wrong result) }
 {
-    let t = s.t;
-    let i = first_loose(octets, s, t);
-    if i < t {
+    if let Some(i) = first_loose(octets, s) {
         if i == 0 {
-            return Wrong {
-                rule: record_rule::FIRST_OFFSET,
-                table: 0,
-                row: 0,
-                column: 0,
-                at: 12,
-            };
+            return Some(of_whole(Rule::FirstOffset, 12));
         }
-        return Wrong {
-            rule: record_rule::NEXT_OFFSET,
+        return Some(RecordFault {
+            rule: Rule::NextOffset,
             table: i,
             row: 0,
             column: 0,
             at: 12 + 4 * i,
-        };
+        });
     }
     tables::of_end(octets, s)
 }
 
 // The rules of the z's, and those behind them.
-fn of_zs(octets: &[u8], s: Sizes) -> Wrong
+fn of_zs(octets: &[u8], s: Sizes) -> Option<RecordFault>
     requires { SizesOf octets.now s }
-    ensures { Told octets.now (or_else (answered (pair_rules octets.now)) (stair_rule octets.now)) result }
+    ensures { Told octets.now (or_else (answered (pair_rules octets.now)) (stair_rule octets.now)) (wrong result) }
 {
     let t = s.t;
     let size = octets.len();
     if size < 10 + 4 * t {
-        return Wrong {
-            rule: record_rule::PAIRS_CUT,
-            table: 0,
-            row: 0,
-            column: 0,
-            at: size,
-        };
+        return Some(of_whole(Rule::PairsCut, size));
     }
-    let out = first_out(octets, t);
-    if out < t {
-        return Wrong {
-            rule: record_rule::Z,
+    if let Some(out) = first_out(octets, t) {
+        return Some(RecordFault {
+            rule: Rule::Z,
             table: out,
             row: 0,
             column: 0,
             at: 10 + 4 * out,
-        };
+        });
     }
-    let fallen = first_fall(octets, t);
-    if fallen < t {
-        return Wrong {
-            rule: record_rule::Z_RISING,
+    if let Some(fallen) = first_fall(octets, t) {
+        return Some(RecordFault {
+            rule: Rule::ZRising,
             table: fallen,
             row: 0,
             column: 0,
             at: 10 + 4 * fallen,
-        };
+        });
     }
     of_offsets(octets, s)
 }
 
 // All rules but the first, of a record that has its header.
-pub fn of_header(octets: &[u8]) -> Wrong
+pub fn of_header(octets: &[u8]) -> Option<RecordFault>
     requires { 10 ≤ length octets.now }
-    ensures { Told octets.now (record_rule octets.now) result }
+    ensures { Told octets.now (record_rule octets.now) (wrong result) }
 {
     let kb = bits::inner::number_at(octets, 0);
     let m = bits::inner::number_at(octets, 2);
     let x = bits::inner::number_at(octets, 4);
     let kind = bits::inner::number_at(octets, 6);
     let t = bits::inner::number_at(octets, 8);
-    let rule = header_rule(kb, m, x, kind, t);
-    if rule != record_rule::NONE {
-        return Wrong {
-            rule,
-            table: 0,
-            row: 0,
-            column: 0,
-            at: header_at(rule),
-        };
+    if let Some(fault) = header_fault(kb, m, x, kind, t) {
+        return Some(fault);
     }
     of_zs(octets, sizes_of(kb, m, x, t))
 }

@@ -1,20 +1,24 @@
-// The rules of a shelf by their numbers, in document 01's order ("Shelf and profile records").
-pub const NONE: usize = 0;
+// The rules of a shelf, in document 01's order ("Shelf and profile records"), each with its number.
+ghost use Rattle.std.specs.Prelude.{◌≡◌};
+ghost use Rattle.rules.specs.Faults.{shelf_number};
 
-pub const NO_COUNT: usize = 1;
+#[derive(Clone, Copy, Debug, PartialEq, Eq)]
+pub enum Rule {
+    NoCount = 1,
+    Count = 2,
+    EntriesCut = 3,
+    Pairs = 4,
+    FirstOffset = 5,
+    NextOffset = 6,
+    End = 7,
+    Size = 8,
+    Tenant = 9,
+}
 
-pub const COUNT: usize = 2;
-
-pub const ENTRIES_CUT: usize = 3;
-
-pub const PAIRS: usize = 4;
-
-pub const FIRST_OFFSET: usize = 5;
-
-pub const NEXT_OFFSET: usize = 6;
-
-pub const END: usize = 7;
-
-pub const SIZE: usize = 8;
-
-pub const TENANT: usize = 9;
+impl Rule {
+    pub fn number(self) -> usize
+        ensures { result ≡ shelf_number self }
+    {
+        self as usize
+    }
+}

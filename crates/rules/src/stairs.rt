@@ -1,20 +1,22 @@
 // The rules of a table: its staircase (document 01, "Shelf and profile records") and its extension (document 02, CR 3), each with the row and the column where it is broken.
-ghost use Rattle.std.specs.Prelude.{◌≡◌, ℕ, suc, ◌+◌, ◌-◌, ◌*◌, ◌≤◌, ◌<◌, length};
+ghost use Rattle.std.specs.Prelude.{◌≡◌, not, eqb, position, ℕ, suc, ◌+◌, ◌-◌, ◌*◌, ◌≤◌, ◌<◌, length};
 ghost use Rattle.bits.specs.Numbers.{answered};
 ghost use Rattle.profile.specs.Record.{entry};
 ghost use Rattle.profile.specs.Staircase.{next_due, next_column, row_ends, extension_row};
 ghost use Rattle.profile.specs.Steps.Shape.{Sized, Whole};
-ghost use Rattle.profile.specs.Steps.Walk.{column, NextFilled, next_right, empty_from};
+ghost use Rattle.profile.specs.Steps.Walk.{column, next_right, empty_from};
 ghost use Rattle.rules.specs.Rules.{first_not, between_rules, first_rules, extension_rules, row_rules, stair_rules, table_rule};
-ghost use Rattle.rules.specs.Steps.Sizes.{Spotted};
+ghost use Rattle.rules.specs.Steps.Walks.{FirstNot, FirstWith};
+ghost use Rattle.rules.specs.Steps.Sizes.{Filled, SpotOf, ExtensionRow, ExtensionSpot};
 
-use crate::record_rule;
+use crate::first::{first_found, first_not};
+use crate::record_rule::Rule;
 use profile::inner::EMPTY;
 
-// The rule that a table breaks first, 0 for none, and the row and the column where.
+// The rule that a table breaks first, and the row and the column where.
 #[derive(Clone, Copy)]
 pub struct Spot {
-    pub rule: usize,
+    pub rule: Rule,
     pub row: usize,
     pub column: usize,
 }
@@ -32,85 +34,77 @@ fn first_entry(table: &[u8], kb: usize, columns: usize, row: usize) -> u8
     table[row * columns + kb]
 }
 
-// The first row from `from` on that column kb fills, or the last row.
-fn next_filled(table: &[u8], kb: usize, m: usize, columns: usize, from: usize) -> usize
+// The first row from `from` on, before the last one, that column kb fills.
+fn next_filled(table: &[u8], kb: usize, m: usize, columns: usize, from: usize) -> Option<usize>
     requires { Sized table.now kb m columns × (from < m) }
-    ensures { NextFilled (column table.now columns kb) m from result }
+    ensures { Filled (column table.now columns kb) m from result }
 {
-    let mut row = from;
-    while row + 1 < m {
+    for row in from..m - 1 {
         if first_entry(table, kb, columns, row) != EMPTY {
-            return row;
+            return Some(row);
         }
-        row += 1;
     }
-    row
+    None
 }
 
 // The rules of column kb behind those of its outer rows being filled: of the rows between, and of the shifts.
-fn of_between(table: &[u8], kb: usize, m: usize, columns: usize) -> Spot
+fn of_between(table: &[u8], kb: usize, m: usize, columns: usize) -> Option<Spot>
     requires { Sized table.now kb m columns }
-    ensures { (x : ℕ) → Spotted table.now kb m x columns (answered (between_rules m (column table.now columns kb))) result }
+    ensures { (x : ℕ) → SpotOf table.now kb m x columns (answered (between_rules m (column table.now columns kb))) result }
 {
-    let middle = next_filled(table, kb, m, columns, 1);
-    if middle + 1 == m {
-        return Spot {
-            rule: record_rule::BETWEEN,
+    let Some(middle) = next_filled(table, kb, m, columns, 1) else {
+        return Some(Spot {
+            rule: Rule::Between,
             row: 1,
             column: kb,
-        };
-    }
-    let second = next_filled(table, kb, m, columns, middle + 1);
-    if second + 1 < m {
-        return Spot {
-            rule: record_rule::BETWEEN,
+        });
+    };
+    if let Some(second) = next_filled(table, kb, m, columns, middle + 1) {
+        return Some(Spot {
+            rule: Rule::Between,
             row: second,
             column: kb,
-        };
+        });
     }
     let bottom = m - 1;
     let last = bottom * columns + kb;
     if table[kb] != table[last] {
-        return Spot {
-            rule: record_rule::OUTER,
+        return Some(Spot {
+            rule: Rule::Outer,
             row: bottom,
             column: kb,
-        };
+        });
     }
     if first_entry(table, kb, columns, middle) != MIDDLE {
-        return Spot {
-            rule: record_rule::MIDDLE,
+        return Some(Spot {
+            rule: Rule::Middle,
             row: middle,
             column: kb,
-        };
+        });
     }
-    Spot {
-        rule: record_rule::NONE,
-        row: 0,
-        column: 0,
-    }
+    None
 }
 
 // The rules of column kb, whatever extension the table has.
-fn of_first(table: &[u8], kb: usize, m: usize, columns: usize) -> Spot
+fn of_first(table: &[u8], kb: usize, m: usize, columns: usize) -> Option<Spot>
     requires { Sized table.now kb m columns }
-    ensures { (x : ℕ) → Spotted table.now kb m x columns (answered (first_rules m (column table.now columns kb))) result }
+    ensures { (x : ℕ) → SpotOf table.now kb m x columns (answered (first_rules m (column table.now columns kb))) result }
 {
     if table[kb] == EMPTY {
-        return Spot {
-            rule: record_rule::TOP_EMPTY,
+        return Some(Spot {
+            rule: Rule::TopEmpty,
             row: 0,
             column: kb,
-        };
+        });
     }
     let bottom = m - 1;
     let last = bottom * columns + kb;
     if table[last] == EMPTY {
-        return Spot {
-            rule: record_rule::LAST_EMPTY,
+        return Some(Spot {
+            rule: Rule::LastEmpty,
             row: bottom,
             column: kb,
-        };
+        });
     }
     of_between(table, kb, m, columns)
 }
@@ -138,189 +132,134 @@ fn is_next(table: &[u8], kb: usize, columns: usize, i: usize, row: usize) -> boo
     table[row * columns + kb + 1 + i] == next_due(i, row)
 }
 
-fn first_off(table: &[u8], kb: usize, m: usize, columns: usize, i: usize) -> usize
+// The first row in which column kb + i + 1 is wrong.
+fn row_off(table: &[u8], kb: usize, m: usize, columns: usize, i: usize) -> Option<usize>
     requires { Sized table.now kb m columns × (suc i < m) × (length table.now ≤ 2400) }
-    ensures { result ≡ first_not m (λ row. next_right table.now kb columns row i) }
+    ensures { FirstNot m (λ row. next_right table.now kb columns row i) result }
 {
-    let mut row = 0;
-    while row < m {
-        if !is_next(table, kb, columns, i, row) {
-            return row;
-        }
-        row += 1;
-    }
-    m
+    first_not(m, |row| is_next(table, kb, columns, i, row))
 }
 
-fn is_column(table: &[u8], kb: usize, m: usize, columns: usize, i: usize) -> bool
-    requires { Sized table.now kb m columns × (suc i < m) × (length table.now ≤ 2400) }
-    ensures { result ≡ next_column m (suc i) (column table.now columns (kb + suc i)) }
-{
-    m <= first_off(table, kb, m, columns, i)
-}
-
-fn first_column_off(table: &[u8], kb: usize, m: usize, columns: usize, n: usize) -> usize
+// The first of n columns behind column kb that is wrong, and the row where it is.
+fn column_off(table: &[u8], kb: usize, m: usize, columns: usize, n: usize) -> Option<(usize, usize)>
     requires { Sized table.now kb m columns × (n < m) × (length table.now ≤ 2400) }
-    ensures { result ≡ first_not n (λ i. next_column m (suc i) (column table.now columns (kb + suc i))) }
+    ensures { FirstWith n (λ i. next_column m (suc i) (column table.now columns (kb + suc i))) (λ i row. (row < m) × (row ≡ first_not m (λ r. next_right table.now kb columns r i))) result }
 {
-    let mut i = 0;
-    while i < n {
-        if !is_column(table, kb, m, columns, i) {
-            return i;
-        }
-        i += 1;
-    }
-    n
+    first_found(n, |i| row_off(table, kb, m, columns, i))
 }
 
-fn is_empty(table: &[u8], from: usize, k: usize) -> bool
-    requires { from + k < length table.now }
-    ensures { result ≡ empty_from table.now from k }
+fn filled_in(entries: &[u8]) -> Option<usize>
+    ensures { result ≡ position (λ x. not (eqb x 255)) entries.now }
 {
-    table[from + k] == EMPTY
+    entries.iter().position(|entry| *entry != EMPTY)
 }
 
 // The first of n entries from `from` on that is filled.
-fn first_filled(table: &[u8], from: usize, n: usize) -> usize
+fn first_filled(table: &[u8], from: usize, n: usize) -> Option<usize>
     requires { from + n ≤ length table.now }
-    ensures { result ≡ first_not n (empty_from table.now from) }
+    ensures { FirstNot n (empty_from table.now from) result }
 {
-    let mut k = 0;
-    while k < n {
-        if !is_empty(table, from, k) {
-            return k;
-        }
-        k += 1;
-    }
-    n
+    filled_in(&table[from..from + n])
 }
 
-// "staircase rows are empty in all extension columns".
-fn row_ends(table: &[u8], kb: usize, m: usize, x: usize, columns: usize, row: usize) -> bool
-    requires { Whole table.now kb m x columns × (row < m) }
-    ensures { result ≡ row_ends table.now kb m x columns row }
-{
-    x <= first_filled(table, row * columns + (kb + m), x)
-}
-
-fn first_row_on(table: &[u8], kb: usize, m: usize, x: usize, columns: usize) -> usize
+// "staircase rows are empty in all extension columns": the first row that is not, and the first of those columns that it fills.
+fn row_on(table: &[u8], kb: usize, m: usize, x: usize, columns: usize) -> Option<(usize, usize)>
     requires { Whole table.now kb m x columns }
-    ensures { result ≡ first_not m (row_ends table.now kb m x columns) }
+    ensures { FirstWith m (row_ends table.now kb m x columns) (λ row k. (k < x) × (k ≡ first_not x (empty_from table.now (row * columns + (kb + m))))) result }
 {
-    let mut row = 0;
-    while row < m {
-        if !row_ends(table, kb, m, x, columns, row) {
-            return row;
-        }
-        row += 1;
-    }
-    m
+    first_found(m, |row| first_filled(table, row * columns + (kb + m), x))
 }
 
 // "In extension row m+i, column kb+m+i holds 0, later columns are empty".
-fn is_extension(table: &[u8], kb: usize, m: usize, x: usize, columns: usize, i: usize) -> bool
+fn of_extension_row(
+    table: &[u8],
+    kb: usize,
+    m: usize,
+    x: usize,
+    columns: usize,
+    i: usize,
+) -> Option<Spot>
     requires { Whole table.now kb m x columns × (i < x) }
-    ensures { result ≡ extension_row table.now kb m x columns i }
+    ensures { ExtensionRow table.now kb m x columns i result }
 {
-    let row = m + i;
-    let own = row * columns + (kb + row);
-    if table[own] != STEP {
-        return false;
-    }
-    let later = x - (i + 1);
-    later <= first_filled(table, own + 1, later)
-}
-
-fn first_extension_off(table: &[u8], kb: usize, m: usize, x: usize, columns: usize) -> usize
-    requires { Whole table.now kb m x columns }
-    ensures { result ≡ first_not x (extension_row table.now kb m x columns) }
-{
-    let mut i = 0;
-    while i < x {
-        if !is_extension(table, kb, m, x, columns, i) {
-            return i;
-        }
-        i += 1;
-    }
-    x
-}
-
-// The rules of the extension rows.
-fn of_extension(table: &[u8], kb: usize, m: usize, x: usize, columns: usize) -> Spot
-    requires { Whole table.now kb m x columns }
-    ensures { Spotted table.now kb m x columns (answered (extension_rules table.now kb m x columns)) result }
-{
-    let i = first_extension_off(table, kb, m, x, columns);
-    if x <= i {
-        return Spot {
-            rule: record_rule::NONE,
-            row: 0,
-            column: 0,
-        };
-    }
     let row = m + i;
     let column = kb + row;
     let own = row * columns + column;
     if table[own] != STEP {
-        return Spot {
-            rule: record_rule::OWN_COLUMN,
+        return Some(Spot {
+            rule: Rule::OwnColumn,
             row,
             column,
-        };
+        });
     }
-    let later = x - (i + 1);
-    let k = first_filled(table, own + 1, later);
-    Spot {
-        rule: record_rule::LATER_COLUMN,
+    let k = first_filled(table, own + 1, x - (i + 1))?;
+    Some(Spot {
+        rule: Rule::LaterColumn,
         row,
         column: column + 1 + k,
-    }
+    })
+}
+
+// The first extension row that is wrong, with what is wrong there.
+fn extension_off(
+    table: &[u8],
+    kb: usize,
+    m: usize,
+    x: usize,
+    columns: usize,
+) -> Option<(usize, Spot)>
+    requires { Whole table.now kb m x columns }
+    ensures { FirstWith x (extension_row table.now kb m x columns) (λ i spot. ExtensionSpot table.now kb m x columns i spot) result }
+{
+    first_found(x, |i| of_extension_row(table, kb, m, x, columns, i))
+}
+
+// The rules of the extension rows.
+fn of_extension(table: &[u8], kb: usize, m: usize, x: usize, columns: usize) -> Option<Spot>
+    requires { Whole table.now kb m x columns }
+    ensures { SpotOf table.now kb m x columns (answered (extension_rules table.now kb m x columns)) result }
+{
+    let (_, spot) = extension_off(table, kb, m, x, columns)?;
+    Some(spot)
 }
 
 // The rules of the extension columns in the staircase rows, and those behind them.
-fn of_rows(table: &[u8], kb: usize, m: usize, x: usize, columns: usize) -> Spot
+fn of_rows(table: &[u8], kb: usize, m: usize, x: usize, columns: usize) -> Option<Spot>
     requires { Whole table.now kb m x columns }
-    ensures { Spotted table.now kb m x columns (answered (row_rules table.now kb m x columns)) result }
+    ensures { SpotOf table.now kb m x columns (answered (row_rules table.now kb m x columns)) result }
 {
-    let row = first_row_on(table, kb, m, x, columns);
-    if row < m {
-        let first = kb + m;
-        let k = first_filled(table, row * columns + first, x);
-        return Spot {
-            rule: record_rule::ROW_EXTENDED,
+    if let Some((row, k)) = row_on(table, kb, m, x, columns) {
+        return Some(Spot {
+            rule: Rule::RowExtended,
             row,
-            column: first + k,
-        };
+            column: kb + m + k,
+        });
     }
     of_extension(table, kb, m, x, columns)
 }
 
 // The rules of the columns after column kb, and those behind them.
-fn of_columns(table: &[u8], kb: usize, m: usize, x: usize, columns: usize) -> Spot
+fn of_columns(table: &[u8], kb: usize, m: usize, x: usize, columns: usize) -> Option<Spot>
     requires { Whole table.now kb m x columns }
-    ensures { Spotted table.now kb m x columns (answered (stair_rules table.now kb m x columns)) result }
+    ensures { SpotOf table.now kb m x columns (answered (stair_rules table.now kb m x columns)) result }
 {
-    let n = m - 1;
-    let i = first_column_off(table, kb, m, columns, n);
-    if i < n {
-        let row = first_off(table, kb, m, columns, i);
-        return Spot {
-            rule: record_rule::COLUMN,
+    if let Some((i, row)) = column_off(table, kb, m, columns, m - 1) {
+        return Some(Spot {
+            rule: Rule::Column,
             row,
             column: kb + (i + 1),
-        };
+        });
     }
     of_rows(table, kb, m, x, columns)
 }
 
 // All rules of a table.
-pub fn of_table(table: &[u8], kb: usize, m: usize, x: usize, columns: usize) -> Spot
+pub fn of_table(table: &[u8], kb: usize, m: usize, x: usize, columns: usize) -> Option<Spot>
     requires { Whole table.now kb m x columns }
-    ensures { Spotted table.now kb m x columns (table_rule table.now kb m x columns) result }
+    ensures { SpotOf table.now kb m x columns (table_rule table.now kb m x columns) result }
 {
-    let spot = of_first(table, kb, m, columns);
-    if spot.rule != record_rule::NONE {
-        return spot;
+    if let Some(spot) = of_first(table, kb, m, columns) {
+        return Some(spot);
     }
     of_columns(table, kb, m, x, columns)
 }

@@ -1,10 +1,11 @@
 // Sends octet 01 by the toy profile of document 02, CR 3, and prints the 128 radio bits as packed octets in one line.
 #![tactic(auto)]
 
-ghost use Rattle.std.specs.Prelude.{◌<◌};
+ghost use Rattle.std.specs.Prelude.{◌≡◌, ◌<◌, length};
+ghost use Rattle.bits.specs.Bits.{AreBits};
 
 use bits::count::{CodedBits, Terms};
-use bits::number::DONE;
+use bits::number::Refusal;
 use std::io::Error;
 
 fn digit(x: u8) -> u8
@@ -23,18 +24,25 @@ fn print_octet(rt: &impl Print, x: u8) -> Result<(), Error> {
 }
 
 fn print_octets(rt: &impl Print, octets: &[u8]) -> Result<(), Error> {
-    let mut i = 0;
-    while i < octets.len() {
-        if 0 < i {
+    for (i, octet) in octets.iter().enumerate() {
+        if i > 0 {
             rt.write_all(b" ")?;
         }
-        print_octet(rt, octets[i])?;
-        i += 1;
+        print_octet(rt, *octet)?;
     }
     rt.write_all(b"\n")
 }
 
-fn print_refused(rt: &impl Print, number: u32) -> Result<(), Error> {
+fn print_packed(rt: &impl Print, bits: &[u8]) -> Result<(), Error>
+    requires { (128 ≡ length bits.now) × AreBits bits.now }
+{
+    let mut octets = [0u8; 16];
+    bits::inner::pack(bits, &mut octets, 16);
+    print_octets(rt, &octets)
+}
+
+fn print_refused(rt: &impl Print, refusal: Refusal) -> Result<(), Error> {
+    let number = refusal.number();
     println!(rt; "refused {number}")
 }
 
@@ -43,22 +51,14 @@ fn main(rt: HostRuntime) -> Result<(), Error> {
         b"\x00\x01\x00\x03\x00\x00\x00\x01\x00\x01\x00\x02\x00\x0e\x00\x01\x00\xff\x01\x00\x00\x00\xff\x01\xff\x00";
     let block = b"\x01";
     let mut out = [0u8; 128];
-    let sent = coding::send(
-        profile,
-        block,
-        Terms {
-            nl: 1,
-            qm: 2,
-            rv: 0,
-            edition: 1,
-        },
-        CodedBits(128),
-        &mut out,
-    );
-    if sent.number != DONE {
-        return print_refused(&rt, sent.number);
+    let terms = Terms {
+        nl: 1,
+        qm: 2,
+        rv: 0,
+        edition: 1,
+    };
+    match coding::send(profile, block, terms, CodedBits(128), &mut out) {
+        Ok(_) => print_packed(&rt, &out),
+        Err(refusal) => print_refused(&rt, refusal),
     }
-    let mut octets = [0u8; 16];
-    bits::inner::pack(&out, &mut octets, 16);
-    print_octets(&rt, &octets)
 }

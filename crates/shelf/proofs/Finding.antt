@@ -1,49 +1,25 @@
 -- What a search says of the entry, and a lookup inside of the record.
 use mathlib.Core.Path.{◌≡◌, refl, sym, ap, ◌∙◌}
 use mathlib.Core.Bool.{Bool, true, false, ◌&&◌}
-use mathlib.Core.List.{List}
+use mathlib.Core.List.{List, []}
 use mathlib.Core.Logic.{⊎_elim}
 use Prim.Native.Nat.{ℕ, ◌+◌, ◌*◌, ◌≤◌, ◌<◌}
 use native.Mathlib.Nat.{zero-add, eq-or-lt_of_le}
 use native.Mathlib.Omega.{arith}
 use lib.Dec.{eqb, ltb}
+use lib.ListN.{length}
 use borrow.Author.Tests.{eqb-true, lt-ltb, le-ltb, eq-eqb, ne_eqb}
 use Rattle.bits.specs.Bits.{AreOctets}
 use Rattle.bits.specs.Numbers.{answered}
 use Rattle.bits.proofs.Answers.{when-done, when_refused}
 use Rattle.bits.proofs.Ranges.{below_or, both, either_way, any_none, first_some, first-none, first-is}
-use Rattle.shelf.specs.Shelf.{count, tenant, profile, record_at, private_shelf, public_shelf}
+use Rattle.shelf.specs.Shelf.{count, tenant, profile, record_at, well_formed, private_shelf, public_shelf}
 use Rattle.shelf.specs.Lookup.{is_entry, has, entry_of, record_of, lookup_number, lookup_record, into, lookup_place}
 use Rattle.shelf.specs.Steps.Walking.{pair, PairsRise}
-use Rattle.shelf.specs.Steps.Finding.{Parted, refusal, entry_found, stretch_of, place_of, Looked}
-use Rattle.shelf.proofs.WellFormed.{Formed, formed-is, record_within, profile-small}
+use Rattle.shelf.specs.Steps.Finding.{Parted, entry_found, stretch_of, place_of, Located}
+use Rattle.shelf.proofs.WellFormed.{Formed, formed-is, pairs-rise, record_within, profile-small}
 
--- ---- half of what is left falls away
-
-module _ (S : List ℕ) (asked : ℕ) (up : PairsRise S) (low high k : ℕ) (h : Parted S asked low high) (l : k < high) where
-  pub parted_low : pair S k < asked → Parted S asked (k + 1) high
-  parted_low m =
-      record {
-        inside = h.inside;
-        below = λ j n.
-            ⊎_elim
-            (λ e. let same : pair S j ≡ pair S k = ap (pair S) e in omega arith)
-            (λ b. omega (arith, up j k b (omega (arith, h.inside)))) (eq-or-lt_of_le (let z : j ≤ k = omega arith in z));
-        others = h.others;
-      }
-
-  pub parted_high : asked ≤ pair S k → Parted S asked low k
-  parted_high m =
-      record {
-        inside = omega (arith, h.inside);
-        below = h.below;
-        others = λ j n b.
-            ⊎_elim
-            (λ e. let same : pair S k ≡ pair S j = ap (pair S) e in omega arith)
-            (λ a. omega (arith, up k j a b)) (eq-or-lt_of_le n);
-      }
-
--- ---- what is left is the entry, or there is none
+-- ---- where the pairs part is the entry, or there is none
 
 module _ (S : List ℕ) (octets : AreOctets S) (t p : ℕ) (short : p < 65536) where
   asked_is : (k : ℕ) → is_entry S t p k ≡ eqb (pair S k) (t * 65536 + p)
@@ -73,9 +49,9 @@ module _ (S : List ℕ) (octets : AreOctets S) (t p : ℕ) (short : p < 65536) w
           none = λ j m. other j (λ z. omega (arith, h.below j m));
         }))
 
-    pub entry-none : PairsRise S → (k < count S → pair S k ≡ t * 65536 + p → ⊥) → count S ≡ entry_of S t p
-    unfolding entry_of
-    entry-none up n = sym (first-none (count S) (is_entry S t p) (any_none (count S) (is_entry S t p) (λ j l. other j (not-here j l))))
+    pub entry-none : PairsRise S → (k < count S → pair S k ≡ t * 65536 + p → ⊥) → has S t p ≡ false
+    unfolding has
+    entry-none up n = any_none (count S) (is_entry S t p) (λ j l. other j (not-here j l))
       where
         not-here : (j : ℕ) → j < count S → pair S j ≡ t * 65536 + p → ⊥
         not-here j l e =
@@ -98,9 +74,6 @@ has-below S t p = by_value (has S t p) refl
 
 pub has_it : (S : List ℕ) (t p k : ℕ) → k ≡ entry_of S t p → k < count S → has S t p ≡ true
 has_it S t p k e l = has-below S t p ∙ lt-ltb (entry_of S t p) (count S) (omega arith)
-
-pub has_not : (S : List ℕ) (t p k : ℕ) → k ≡ entry_of S t p → count S ≤ k → has S t p ≡ false
-has_not S t p k e l = has-below S t p ∙ le-ltb (entry_of S t p) (count S) (omega arith)
 
 module _ (private public : List ℕ) (t p : ℕ) where
   -- ---- the number by its tests
@@ -137,24 +110,18 @@ module _ (private public : List ℕ) (t p : ℕ) where
 
   -- ---- what is found
 
-  pub looked_refused : (n : ℕ) → lookup_number private public t p ≡ n → (n ≡ 0 → ⊥) → Looked private public t p (refusal n)
-  unfolding refusal stretch_of place_of lookup_record lookup_place into
-  looked_refused n e h =
-      let no : lookup_number private public t p ≡ 0 → ⊥ = λ z. h (sym e ∙ z) in
-      record {
-        number = sym e;
-        octets = rw (when_refused {A = List ℕ} _ _ _ no);
-        place = λ q r. rw (when_refused {A = ℕ × ℕ} _ _ _ no, zero-add);
-        inside = record { short = omega arith; within = omega arith };
-      }
+  -- with a refusal there is nothing, at the start of the public shelf
+  pub none-found : (lookup_number private public t p ≡ 0 → ⊥) → ([] ≡ lookup_record private public t p) × ((q r : ℕ × ℕ) → r ≡ lookup_place private public t p q r)
+  unfolding lookup_record lookup_place
+  none-found n = (sym (when_refused {A = List ℕ} _ _ _ n), λ q r. sym (when_refused {A = ℕ × ℕ} _ _ _ n))
 
   module _ (z : lookup_number private public t p ≡ 0) where
     pub looked-own : Formed private true → (k : ℕ) → k ≡ entry_of private t p → has private t p ≡ true → k < count private
-        → Looked private public t p (entry_found true private k)
+        → Located private public t p (entry_found true private k)
     unfolding entry_found stretch_of place_of lookup_record lookup_place record_of record_at
     looked-own f k e h l =
         record {
-          number = sym z;
+          done = z;
           octets = rw (when-done {A = List ℕ} _ _ _ z, h, e);
           place = λ q r. rw (when-done {A = ℕ × ℕ} _ _ _ z, h, e);
           inside =
@@ -163,11 +130,11 @@ module _ (private public : List ℕ) (t p : ℕ) where
         }
 
     pub looked-public : Formed public false → (k : ℕ) → k ≡ entry_of public 0 p → has private t p ≡ false → k < count public
-        → Looked private public t p (entry_found false public k)
+        → Located private public t p (entry_found false public k)
     unfolding entry_found stretch_of place_of lookup_record lookup_place record_of record_at
     looked-public f k e h l =
         record {
-          number = sym z;
+          done = z;
           octets = rw (when-done {A = List ℕ} _ _ _ z, h, e);
           place = λ q r. rw (when-done {A = ℕ × ℕ} _ _ _ z, h, e);
           inside =
@@ -175,18 +142,19 @@ module _ (private public : List ℕ) (t p : ℕ) where
               record { short = omega (arith, here, f.sizes.short); within = here };
         }
 
-  module _ (asked : 1 ≤ t) (own : private_shelf private ≡ true) (shared : public_shelf public ≡ true) (k : ℕ) (e : k ≡ entry_of private t p) where
-    pub chosen-own : k < count private → Looked private public t p (entry_found true private k)
-    chosen-own l =
-        let it = has_it private t p k e l in
-        looked-own (own-has asked own shared it) (formed-is private true own) k e it l
+  module _ (asked : 1 ≤ t) (own : private_shelf private ≡ true) (shared : public_shelf public ≡ true) where
+    pub chosen-own : (k : ℕ) → (k ≡ entry_of private t p) × (k < count private) → Located private public t p (entry_found true private k)
+    chosen-own k e =
+        let it = has_it private t p k e.0 e.1 in
+        looked-own (own-has asked own shared it) (formed-is private true own) k e.0 it e.1
 
-    module _ (l : count private ≤ k) (j : ℕ) (f : j ≡ entry_of public 0 p) where
-      pub chosen-public : j < count public → Looked private public t p (entry_found false public j)
-      chosen-public m =
-          let none = has_not private t p k e l in
-          looked-public (public-has asked own shared none (has_it public 0 p j f m)) (formed-is public false shared) j f none m
+    module _ (none : has private t p ≡ false) where
+      pub chosen-public : (k : ℕ) → (k ≡ entry_of public 0 p) × (k < count public) → Located private public t p (entry_found false public k)
+      chosen-public k e =
+          looked-public (public-has asked own shared none (has_it public 0 p k e.0 e.1)) (formed-is public false shared) k e.0 none e.1
 
-      pub chosen_none : count public ≤ j → Looked private public t p (refusal 4)
-      chosen_none m =
-          looked_refused 4 (neither-has asked own shared (has_not private t p k e l) (has_not public 0 p j f m)) (λ z. omega arith)
+-- a shelf that is well formed can be searched
+pub searched : (S : List ℕ) → AreOctets S → (private : Bool) → well_formed private S ≡ true → (2 + 8 * count S ≤ length S) × PairsRise S
+searched S octets private e =
+    let f = formed-is S private e in
+    (f.sizes.room, pairs-rise S octets private f)

@@ -1,4 +1,5 @@
 pub mod WellFormed
+pub mod Heads
 pub mod Finding
 pub mod Hosted
 pub mod Agreement

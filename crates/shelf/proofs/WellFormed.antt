@@ -268,7 +268,7 @@ module _ (S : List ℕ) where
         (λ n. rw (lt-ltb (tenant S k) (tenant S (suc k)) (omega (arith, profile-small (suc k)))))
 
     -- it rises exactly where the pair does
-    rises-carried : (k : ℕ) → rises S k ≡ leb (least_pair S k) (pair S k)
+    pub rises-carried : (k : ℕ) → rises S k ≡ leb (least_pair S k) (pair S k)
     unfolding rises least_pair
     rises-carried zero = sym (le-leb 0 (pair S 0) (omega arith))
     rises-carried (suc k) =

@@ -1,12 +1,18 @@
 -- What the public calls promise, for all octets, lengths and numbers. t is the tenant and p the profile number.
-use Rattle.std.specs.Prelude.{◌≡◌, false, List, ℕ}
+use Rattle.std.specs.Prelude.{◌≡◌, false, Result, Ok, Err, List, [], ℕ}
 use Rattle.std.specs.Borrow.{Bor}
+use Rattle.bits.specs.declared.number.Refusal.{Refusal}
 use Rattle.bits.specs.declared.number.Written.{Written}
 use Rattle.bits.specs.declared.count.Terms.{Terms}
 use Rattle.checking.specs.Promises.{WordChecked}
 use Rattle.checking.specs.declared.Verdict.{Verdict}
 use Rattle.coding.specs.Promises.{Sent, Received}
 use Rattle.shelf.specs.Lookup.{lookup_number, lookup_record, lookup_place}
+
+-- "With a refusal it is the empty stretch at the start of the public shelf"
+abbrev pub stretch_or : Bor (List ℕ) → Result (Bor (List ℕ)) Refusal → Bor (List ℕ)
+stretch_or public (Ok stretch) = stretch
+stretch_or public (Err refusal) = record { ref_ptr = public.ref_ptr; now = [] }
 
 -- the stretch: its octets (`now`), and where they lie (`ptr`), so that it is no copy
 pub record LookedUp (private public : Bor (List ℕ)) (t p : ℕ) (r : Bor (List ℕ)) : Type 0 where

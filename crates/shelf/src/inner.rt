@@ -6,30 +6,29 @@ pub mod form;
 ghost use Rattle.std.specs.Prelude.{◌≡◌};
 ghost use Rattle.shelf.specs.Steps.Finding.{stretch_of, place_of, Inside, Looked};
 
-use bits::number::{PRIVATE_SHELF, PUBLIC_SHELF, TENANT_ZERO};
+use bits::number::Refusal;
 
-// What a lookup comes to: its number, and where the octets lie, in the private shelf where `own`, else in the public one. A place and not a
-// reference, so that one lookup serves the number, the stretch and the hosted calls.
+// Where the octets lie: in the private shelf where `own`, else in the public one. A place and not a reference, so that one lookup serves the stretch, the
+// hosted calls and those who tell the place.
 #[derive(Clone, Copy)]
 pub struct Found {
-    pub number: u32,
     pub own: bool,
     pub at: usize,
     pub size: usize,
 }
 
-// The numbers 1 to 4 in their order. Both shelves are judged before one is searched, so that what the search reads is there.
-pub fn look(private: &[u8], public: &[u8], tenant: u16, profile: u16) -> Found
+// The refusals 1 to 4 in their order. Both shelves are judged before one is searched, so that what the search reads is there.
+pub fn look(private: &[u8], public: &[u8], tenant: u16, profile: u16) -> Result<Found, Refusal>
     ensures { Looked private.now public.now tenant profile result }
 {
     if tenant == 0 {
-        return find::refused(TENANT_ZERO);
+        return Err(Refusal::TenantZero);
     }
     if !form::well_formed(true, private) {
-        return find::refused(PRIVATE_SHELF);
+        return Err(Refusal::PrivateShelf);
     }
     if !form::well_formed(false, public) {
-        return find::refused(PUBLIC_SHELF);
+        return Err(Refusal::PublicShelf);
     }
     find::choose(private, public, tenant as usize, profile as usize)
 }

@@ -5,30 +5,30 @@ pub mod inner;
 
 ghost use Rattle.std.specs.Prelude.{◌≡◌};
 ghost use Rattle.shelf.specs.Lookup.{lookup_number};
-ghost use Rattle.shelf.specs.Promises.{LookedUp, HostedSent, HostedReceived, HostedChecked};
+ghost use Rattle.bits.specs.Refusals.{number_of, written};
+ghost use Rattle.checking.specs.Promises.{verdict};
+ghost use Rattle.shelf.specs.Promises.{stretch_or, LookedUp, HostedSent, HostedReceived, HostedChecked};
 
 use crate::inner::{look, stretch};
 use bits::count::{CodedBits, Terms};
-use bits::number::{DONE, Written};
-use checking::{Checker, Verdict};
-
-// The number of a lookup: 0, or 1 to 4.
-pub fn lookup_number(private: &[u8], public: &[u8], tenant: u16, profile: u16) -> u32
-    ensures { result ≡ lookup_number private.now public.now tenant profile }
-{
-    let found = look(private, public, tenant, profile);
-    found.number
-}
+use bits::number::Refusal;
+use checking::Checker;
 
 // "What is handed back is that stretch of one shelf or the other, not a copy."
-pub fn lookup<'a>(private: &'a [u8], public: &'a [u8], tenant: u16, profile: u16) -> &'a [u8]
-    ensures { LookedUp private.entry public.entry tenant profile result }
+pub fn lookup<'a>(
+    private: &'a [u8],
+    public: &'a [u8],
+    tenant: u16,
+    profile: u16,
+) -> Result<&'a [u8], Refusal>
+    ensures number { number_of result ≡ lookup_number private.now public.now tenant profile }
+    ensures stretch { LookedUp private.entry public.entry tenant profile (stretch_or public.entry result) }
 {
-    let found = look(private, public, tenant, profile);
-    stretch(private, public, found)
+    let found = look(private, public, tenant, profile)?;
+    Ok(stretch(private, public, found))
 }
 
-// Sends a transport block with the profile that a tenant is given: the number of the lookup where it refuses, else what sending answers.
+// Sends a transport block with the profile that a tenant is given: the refusal of the lookup, else what sending answers.
 pub fn hosted_send<'a>(
     private: &'a [u8],
     public: &'a [u8],
@@ -38,15 +38,11 @@ pub fn hosted_send<'a>(
     terms: Terms,
     g: CodedBits,
     out: &mut [u8],
-) -> Written
-    ensures { HostedSent private.now public.now tenant profile block.now terms g.0 out.old result out.new }
+) -> Result<usize, Refusal>
+    ensures { HostedSent private.now public.now tenant profile block.now terms g.0 out.old (written result) out.new }
 {
-    let found = look(private, public, tenant, profile);
-    let number = found.number;
-    if number != DONE {
-        return Written { number, count: 0 };
-    }
-    coding::send(stretch(private, public, found), block, terms, g, out)
+    let given = lookup(private, public, tenant, profile)?;
+    coding::send(given, block, terms, g, out)
 }
 
 // Receives radio bits with the profile that a tenant is given, the same way.
@@ -60,15 +56,10 @@ pub fn hosted_receive<'a>(
     bits: &[u8],
     checker: Checker,
     out: &mut [u8],
-) -> Written
-    ensures { HostedReceived private.now public.now tenant profile a terms bits.now out.old result out.new }
+) -> Result<usize, Refusal>
+    ensures { HostedReceived private.now public.now tenant profile a terms bits.now out.old (written result) out.new }
 {
-    let found = look(private, public, tenant, profile);
-    let number = found.number;
-    if number != DONE {
-        return Written { number, count: 0 };
-    }
-    let record = stretch(private, public, found);
+    let record = lookup(private, public, tenant, profile)?;
     coding::receive(record, a, terms, bits, checker, out)
 }
 
@@ -81,16 +72,9 @@ pub fn hosted_check<'a>(
     z: usize,
     word: &[u8],
     checker: Checker,
-) -> Verdict
-    ensures { HostedChecked private.now public.now tenant profile z word.now result }
+) -> Result<bool, Refusal>
+    ensures { HostedChecked private.now public.now tenant profile z word.now (verdict result) }
 {
-    let found = look(private, public, tenant, profile);
-    let number = found.number;
-    if number != DONE {
-        return Verdict {
-            number,
-            checks: false,
-        };
-    }
-    checking::check_word(stretch(private, public, found), z, word, checker)
+    let printed = lookup(private, public, tenant, profile)?;
+    checking::check_word(printed, z, word, checker)
 }

@@ -1,34 +1,17 @@
 // The command `shelf`: what is on a shelf, as a table.
-use bits::number::{DONE, PROFILE};
+use bits::number::Refusal;
 use console::argv::Words;
 use console::host::Host;
 use console::{argv, counted, files, help, page, parts, status};
+use reasons::side::Side;
 use reasons::{shelves, side};
 use shelf::inner::form;
 use text::octets;
 
 // The names of the words, in their order.
-const NAMES: [u8; 14] = *b"--kind\n--file\n";
+const NAMES: &[u8] = b"--kind\n--file\n";
 
-pub fn run(rt: &impl Host, words: Words) -> i32 {
-    if words.help {
-        return say(rt, words);
-    }
-    if !argv::fits(rt, &NAMES, 2, b"-o\n") {
-        return say(rt, words);
-    }
-    let side = side::read(rt, &NAMES);
-    if side.bad {
-        return say(rt, words);
-    }
-    read(rt, side.private)
-}
-
-fn say(rt: &impl Host, words: Words) -> i32 {
-    help::say(
-        rt,
-        words.help,
-        b"usage: kuambyte shelf KIND FILE [-o FILE]
+const HELP: &[u8] = b"usage: kuambyte shelf KIND FILE [-o FILE]
 
 Writes a table of what is on a shelf: of each record its tenant, its profile number, its octets, kb, m, x, type, rate and sizes, and whether
 it is accepted or which number refuses it; and how much room there is. Of a shelf that is not well formed it says the first rule that it
@@ -39,19 +22,31 @@ breaks, in the words of document 01, and where; entries and octets are counted f
   -o FILE   write to this file, and not to standard output; it is never half written
 
 Words may also be given by name, in any order: --kind KIND --file FILE.
-",
-    )
+";
+
+pub fn run(rt: &impl Host, words: Words) -> i32 {
+    match asked(rt, words) {
+        Some(side) => read(rt, side),
+        None => help::say(rt, words.help, HELP),
+    }
 }
 
-fn read(rt: &impl Host, private: bool) -> i32 {
-    let mut store = files::shelf_room();
-    let file = files::named(rt, &NAMES, b"--file", &mut store);
-    if file.failed {
-        return status::FAILED;
+// What the words ask for, unless they ask for help or do not fit.
+fn asked(rt: &impl Host, words: Words) -> Option<Side> {
+    if words.help || !argv::fits(rt, NAMES, 2, b"-o\n") {
+        return None;
     }
-    let octets = octets::first(&store, file.count);
-    if !form::well_formed(private, octets) {
-        return shelves::refuse(rt, private, octets);
+    side::read(rt, NAMES)
+}
+
+fn read(rt: &impl Host, side: Side) -> i32 {
+    let mut store = files::shelf_room();
+    let Some(count) = files::named(rt, NAMES, b"--file", &mut store) else {
+        return status::FAILED;
+    };
+    let octets = octets::first(&store, count);
+    if !form::well_formed(side.is_private(), octets) {
+        return shelves::refuse(rt, side, octets);
     }
     let mut page = io::large_buffer();
     let n = put_table(octets, &mut page);
@@ -65,11 +60,9 @@ fn put_table(octets: &[u8], page: &mut [u8]) -> usize {
         page,
         0,
     );
-    let mut k = 0;
-    while k < count {
+    for k in 0..count {
         let at = 2 + parts::times(8, k);
         end = put_entry(octets, at, page, end);
-        k += 1;
     }
     put_room(count, octets.len(), page, end)
 }
@@ -88,12 +81,12 @@ fn put_entry(octets: &[u8], at: usize, page: &mut [u8], from: usize) -> usize {
 
 // Of a record that is not well formed nothing can be read.
 fn put_record(record: &[u8], page: &mut [u8], at: usize) -> usize {
-    let number = profile::judge(record);
-    if number == PROFILE {
+    let verdict = profile::judge(record);
+    if verdict == Err(Refusal::Profile) {
         return page::put(b"   -   -   -     -      -  refused 5", page, at);
     }
     let a = put_shape(record, page, at);
-    let b = put_verdict(number, page, a);
+    let b = put_verdict(verdict, page, a);
     put_sizes(record, page, b)
 }
 
@@ -108,21 +101,19 @@ fn put_shape(record: &[u8], page: &mut [u8], at: usize) -> usize {
     counted::put_rate(kb, kb + m + x, 5, page, d)
 }
 
-fn put_verdict(number: u32, page: &mut [u8], at: usize) -> usize {
-    if number == DONE {
-        return page::put(b"  accepted ", page, at);
+fn put_verdict(verdict: Result<(), Refusal>, page: &mut [u8], at: usize) -> usize {
+    match verdict {
+        Ok(()) => page::put(b"  accepted ", page, at),
+        Err(refusal) => page::form(b"  refused #", &[refusal as usize], page, at),
     }
-    page::form(b"  refused #", &[number as usize], page, at)
 }
 
 fn put_sizes(record: &[u8], page: &mut [u8], at: usize) -> usize {
     let t = parts::two_octets(record, 8);
     let mut end = at;
-    let mut i = 0;
-    while i < t {
+    for i in 0..t {
         let pair = 10 + parts::times(4, i);
         end = page::right(parts::two_octets(record, pair), 4, page, end);
-        i += 1;
     }
     end
 }

@@ -1,36 +1,19 @@
 // The command `put`: a private shelf with a record of a tenant on it.
-use bits::number::{DONE, FULL_SHELF};
+use bits::number::Refusal;
 use console::argv::Words;
 use console::errors::Errors;
 use console::host::Host;
 use console::{argv, counted, files, help, meanings, page, parts, status};
 use hosted::asked::Parameters;
 use hosted::{asked, refusal};
+use reasons::side::Side;
 use reasons::{records, shelves};
 use text::octets;
 
 // The names of the words, in their order.
-const NAMES: [u8; 29] = *b"--private\n--tenant\n--profile\n";
+const NAMES: &[u8] = b"--private\n--tenant\n--profile\n";
 
-pub fn run(rt: &impl Host, words: Words) -> i32 {
-    if words.help {
-        return say(rt, words);
-    }
-    if !argv::fits(rt, &NAMES, 3, b"-o\n") {
-        return say(rt, words);
-    }
-    let asked = asked::for_lookup(rt, &NAMES);
-    if asked.bad {
-        return say(rt, words);
-    }
-    read(rt, asked)
-}
-
-fn say(rt: &impl Host, words: Words) -> i32 {
-    help::say(
-        rt,
-        words.help,
-        b"usage: kuambyte put PRIVATE TENANT PROFILE [-o FILE] < record > shelf
+const HELP: &[u8] = b"usage: kuambyte put PRIVATE TENANT PROFILE [-o FILE] < record > shelf
 
 Reads a profile record and writes the private shelf with it as the tenant's record of that profile number, in the place of the one that is
 there, if there is one. Every other record stays as it is. A record that sending would refuse is refused.
@@ -40,44 +23,60 @@ there, if there is one. Every other record stays as it is. A record that sending
   -o FILE           write to this file, and not to standard output; it is never half written
 
 Words may also be given by name, in any order: --private PRIVATE --tenant TENANT --profile PROFILE.
-",
-    )
+";
+
+pub fn run(rt: &impl Host, words: Words) -> i32 {
+    match asked(rt, words) {
+        Some(asked) => read(rt, asked),
+        None => help::say(rt, words.help, HELP),
+    }
+}
+
+// What the words ask for, unless they ask for help or do not fit.
+fn asked(rt: &impl Host, words: Words) -> Option<Parameters> {
+    if words.help || !argv::fits(rt, NAMES, 3, b"-o\n") {
+        return None;
+    }
+    asked::for_lookup(rt, NAMES)
 }
 
 fn read(rt: &impl Host, asked: Parameters) -> i32 {
     let mut store = files::shelf_room();
-    let file = files::named(rt, &NAMES, b"--private", &mut store);
-    if file.failed {
-        return status::FAILED;
+    match files::named(rt, NAMES, b"--private", &mut store) {
+        Some(count) => read_record(rt, asked, octets::first(&store, count)),
+        None => status::FAILED,
     }
-    read_record(rt, asked, octets::first(&store, file.count))
 }
 
 fn read_record(rt: &impl Host, asked: Parameters, private: &[u8]) -> i32 {
     let mut store = files::shelf_room();
-    let input = files::input(rt, false, &mut store);
-    if input.failed {
-        return status::FAILED;
+    match files::input(rt, false, &mut store) {
+        Some(count) => answer(rt, asked, private, octets::first(&store, count)),
+        None => status::FAILED,
     }
-    answer(rt, asked, private, octets::first(&store, input.count))
 }
 
 fn answer(rt: &impl Host, asked: Parameters, private: &[u8], record: &[u8]) -> i32 {
     let mut shelf = files::shelf_room();
-    let put = keeping::put_record(private, asked.tenant, asked.profile, record, &mut shelf);
-    if put.number != DONE {
-        return refuse(rt, put.number, asked, private, record);
+    match keeping::put_record(private, asked.tenant, asked.profile, record, &mut shelf) {
+        Ok(count) => files::write(rt, octets::first(&shelf, count)),
+        Err(refusal) => refuse(rt, refusal, asked, private, record),
     }
-    files::write(rt, octets::first(&shelf, put.count))
 }
 
 // Each refusal says what to mend.
-fn refuse(rt: &impl Errors, number: u32, asked: Parameters, private: &[u8], record: &[u8]) -> i32 {
-    match number {
-        2 => shelves::refuse(rt, true, private),
-        5 | 6 => records::refuse(rt, number, record),
-        26 => full(rt, private, record),
-        _ => refusal::write(rt, number, record, asked),
+fn refuse(
+    rt: &impl Errors,
+    refusal: Refusal,
+    asked: Parameters,
+    private: &[u8],
+    record: &[u8],
+) -> i32 {
+    match refusal {
+        Refusal::PrivateShelf => shelves::refuse(rt, Side::Private, private),
+        Refusal::Profile | Refusal::NoStaircase => records::refuse(rt, refusal, record),
+        Refusal::FullShelf => full(rt, private, record),
+        _ => refusal::write(rt, refusal, record, asked),
     }
 }
 
@@ -86,7 +85,7 @@ fn full(rt: &impl Errors, private: &[u8], record: &[u8]) -> i32 {
     let count = parts::two_octets(private, 0);
     let mut line = io::buffer();
     let a = page::put(b"refused 26: ", &mut line, 0);
-    let b = meanings::put(FULL_SHELF, &mut line, a);
+    let b = meanings::put(Refusal::FullShelf, &mut line, a);
     let c = page::form(
         b"; # entries and # octets are free, and a record takes 8 octets and its own #\n",
         &[
@@ -97,5 +96,5 @@ fn full(rt: &impl Errors, private: &[u8], record: &[u8]) -> i32 {
         &mut line,
         b,
     );
-    refusal::say(rt, FULL_SHELF, octets::first(&line, c))
+    refusal::say(rt, Refusal::FullShelf, octets::first(&line, c))
 }

@@ -8,47 +8,13 @@ mod send;
 
 use console::argv::Words;
 use console::host::Host;
-use console::{argv, help, list, page};
+use console::{argv, help, page};
 use text::octets;
 
 // The names of the words. The second or the third stands behind KIND, by what that is.
-const NAMES: [u8; 23] = *b"--kind\n--bits\n--length\n";
+const NAMES: &[u8] = b"--kind\n--bits\n--length\n";
 
-pub fn run(rt: &impl Host, words: Words) -> i32 {
-    if words.help {
-        return say(rt, words);
-    }
-    let mut word = io::buffer();
-    let n = argv::read(rt, argv::place(rt, &NAMES, b"--kind"), &mut word);
-    of_kind(rt, words, &word[..n])
-}
-
-fn of_kind(rt: &impl Host, words: Words, kind: &[u8]) -> i32 {
-    match list::find(b"send\nreceive\n", kind) {
-        0 => send::run(rt, words),
-        1 => receive::run(rt, words),
-        _ => other(rt, words, kind),
-    }
-}
-
-// A word that is neither, or is missing.
-fn other(rt: &impl Host, words: Words, kind: &[u8]) -> i32 {
-    if !argv::fits(rt, &NAMES, 1, b"--text\n-o\n") {
-        return say(rt, words);
-    }
-    let mut line = io::buffer();
-    let a = page::put(b"kuambyte: KIND is send or receive, and '", &mut line, 0);
-    let b = page::put(octets::first(kind, 100), &mut line, a);
-    let c = page::put(b"' is neither\n", &mut line, b);
-    rt.say(octets::first(&line, c));
-    say(rt, words)
-}
-
-fn say(rt: &impl Host, words: Words) -> i32 {
-    help::say(
-        rt,
-        words.help,
-        b"usage: kuambyte control send BITS | receive LENGTH [--text] [-o FILE]
+const HELP: &[u8] = b"usage: kuambyte control send BITS | receive LENGTH [--text] [-o FILE]
 
 kuambyte control send BITS < word > bits reads a control word of 6 to 128 bits and writes the BITS bits that it is sent as: its three
 streams, one behind the other, each in the order of 32 columns, and again from the first bit on where BITS is more than they have.
@@ -63,6 +29,33 @@ writes its three streams whole, one after the other, in the order of their gener
   -o FILE   write to this file, and not to standard output; it is never half written
 
 Words may also be given by name, in any order: --kind send --bits BITS, or --kind receive --length LENGTH.
-",
-    )
+";
+
+pub fn run(rt: &impl Host, words: Words) -> i32 {
+    if words.help {
+        return help::say(rt, true, HELP);
+    }
+    let mut word = io::buffer();
+    let n = argv::read(rt, argv::place(rt, NAMES, b"--kind"), &mut word);
+    of_kind(rt, words, &word[..n])
+}
+
+fn of_kind(rt: &impl Host, words: Words, kind: &[u8]) -> i32 {
+    match kind {
+        b"send" => send::run(rt, words),
+        b"receive" => receive::run(rt, words),
+        _ => other(rt, kind),
+    }
+}
+
+// A word that is neither, or is missing.
+fn other(rt: &impl Host, kind: &[u8]) -> i32 {
+    if argv::fits(rt, NAMES, 1, b"--text\n-o\n") {
+        let mut line = io::buffer();
+        let a = page::put(b"kuambyte: KIND is send or receive, and '", &mut line, 0);
+        let b = page::put(octets::first(kind, 100), &mut line, a);
+        let c = page::put(b"' is neither\n", &mut line, b);
+        rt.say(octets::first(&line, c));
+    }
+    help::say(rt, false, HELP)
 }

@@ -1,36 +1,16 @@
 // The command `nearest`: the control word whose code is nearest to three received streams.
-ghost use Rattle.std.specs.Prelude.{◌≡◌, length};
-
 use crate::{refusal, send};
-use bits::number::DONE;
 use console::argv::Words;
 use console::errors::Errors;
 use console::host::Host;
 use console::{argv, files, help, page, parts, status};
+use nearest::Closest;
 use text::octets;
 
 // The name of the one word.
-const NAMES: [u8; 9] = *b"--length\n";
+const NAMES: &[u8] = b"--length\n";
 
-pub fn run(rt: &impl Host, words: Words) -> i32 {
-    if words.help {
-        return say(rt, words);
-    }
-    if !argv::fits(rt, &NAMES, 1, b"--text\n-o\n") {
-        return say(rt, words);
-    }
-    let d = argv::read_number(rt, &NAMES, b"--length", usize::MAX);
-    if d.bad {
-        return say(rt, words);
-    }
-    read(rt, words.text, d.value)
-}
-
-fn say(rt: &impl Host, words: Words) -> i32 {
-    help::say(
-        rt,
-        words.help,
-        b"usage: kuambyte nearest LENGTH [--text] [-o FILE] < streams > word
+const HELP: &[u8] = b"usage: kuambyte nearest LENGTH [--text] [-o FILE] < streams > word
 
 Reads three streams of LENGTH bits each, as kuambyte control receive writes them, and writes the control word of LENGTH bits whose own
 streams differ from them in the fewest places. Among words that are as near it is the smallest, read as binary with the first bit highest.
@@ -43,42 +23,49 @@ In how many places they differ is said on standard error.
 LENGTH may also be given by name: --length LENGTH. From the bits that a word of 22 bits was sent as to the word:
 
   kuambyte control receive 22 < bits | kuambyte nearest 22 > word
-",
-    )
+";
+
+pub fn run(rt: &impl Host, words: Words) -> i32 {
+    match asked(rt, words) {
+        Some(d) => read(rt, words.text, d),
+        None => help::say(rt, words.help, HELP),
+    }
 }
 
-// Room for one bit more than the streams of the longest word: input that is too long is refused, not cut.
-fn heard_room() -> [u8; 385]
-    ensures { 385 ≡ length result }
-{
-    [0; 385]
+// What the words ask for, unless they ask for help or do not fit.
+fn asked(rt: &impl Host, words: Words) -> Option<usize> {
+    if words.help || !argv::fits(rt, NAMES, 1, b"--text\n-o\n") {
+        return None;
+    }
+    argv::read_number(rt, NAMES, b"--length", usize::MAX)
 }
 
-// Room for the longest word, and for the line end of its text.
-fn word_room() -> [u8; 129]
-    ensures { 129 ≡ length result }
-{
-    [0; 129]
-}
+// One bit more than the streams of the longest word: input that is too long is refused, not cut.
+const HEARD: usize = 385;
+
+// The longest word, and the line end of its text.
+const WORD: usize = 129;
 
 fn read(rt: &impl Host, text: bool, d: usize) -> i32 {
-    let mut heard = heard_room();
-    let input = files::input(rt, text, &mut heard);
-    if input.failed {
-        return status::FAILED;
+    let mut heard = [0u8; HEARD];
+    match files::input(rt, text, &mut heard) {
+        Some(count) => answer(rt, text, d, octets::first(&heard, count)),
+        None => status::FAILED,
     }
-    answer(rt, text, d, octets::first(&heard, input.count))
 }
 
 fn answer(rt: &impl Host, text: bool, d: usize, heard: &[u8]) -> i32 {
-    let mut word = word_room();
-    let found = nearest::nearest_word(d, heard, &mut word);
-    if found.number != DONE {
-        return refusal::of_streams(rt, found.number, d, heard.len());
+    let mut word = [0u8; WORD];
+    match nearest::nearest_word(d, heard, &mut word) {
+        Ok(closest) => write(rt, text, d, closest, &mut word),
+        Err(refusal) => refusal::of_streams(rt, refusal, d, heard.len()),
     }
-    let ended = send::write(rt, text, found.count, &mut word);
+}
+
+fn write(rt: &impl Host, text: bool, d: usize, closest: Closest, word: &mut [u8]) -> i32 {
+    let ended = send::write(rt, text, closest.count, word);
     if ended == status::DONE {
-        note(rt, found.differences, parts::times(3, d));
+        note(rt, closest.differences, parts::times(3, d));
     }
     ended
 }

@@ -1,81 +1,81 @@
 // A refusal of a control word: its one line on standard error, and the exit status.
-use bits::number::PARAMETER;
+use bits::number::Refusal;
 use console::errors::Errors;
 use console::{meanings, page, parts};
 use text::octets;
 
 // Of a word of so many bits that is to be sent.
-pub fn of_word(rt: &impl Errors, number: u32, length: usize) -> i32 {
+pub fn of_word(rt: &impl Errors, refusal: Refusal, length: usize) -> i32 {
     let mut line = io::buffer();
-    let a = begin(number, &mut line);
-    let b = word_hint(number, length, &mut line, a);
-    end(rt, number, &mut line, b)
+    let a = begin(refusal, &mut line);
+    let b = word_hint(refusal, length, &mut line, a);
+    end(rt, refusal, &mut line, b)
 }
 
 // Of so many bits that a word of d bits is said to be sent as.
-pub fn of_bits(rt: &impl Errors, number: u32, d: usize, received: usize) -> i32 {
+pub fn of_bits(rt: &impl Errors, refusal: Refusal, d: usize, received: usize) -> i32 {
     let mut line = io::buffer();
-    let a = begin(number, &mut line);
-    let b = bits_hint(number, d, received, &mut line, a);
-    end(rt, number, &mut line, b)
+    let a = begin(refusal, &mut line);
+    let b = bits_hint(refusal, d, received, &mut line, a);
+    end(rt, refusal, &mut line, b)
 }
 
 // Of so many bits that are said to be the three streams of a word of d bits.
-pub fn of_streams(rt: &impl Errors, number: u32, d: usize, received: usize) -> i32 {
+pub fn of_streams(rt: &impl Errors, refusal: Refusal, d: usize, received: usize) -> i32 {
     let mut line = io::buffer();
-    let n = put_streams(number, d, received, &mut line);
-    end(rt, number, &mut line, n)
+    let n = put_streams(refusal, d, received, &mut line);
+    end(rt, refusal, &mut line, n)
 }
 
 // Of streams, 8 is for how long they are, and not for what a word is sent with.
-fn put_streams(number: u32, d: usize, received: usize, line: &mut [u8]) -> usize {
-    if number == PARAMETER {
+fn put_streams(refusal: Refusal, d: usize, received: usize, line: &mut [u8]) -> usize {
+    if refusal == Refusal::Parameter {
         return put_count(d, received, line);
     }
-    let n = begin(number, line);
-    bits_hint(number, d, received, line, n)
+    let n = begin(refusal, line);
+    bits_hint(refusal, d, received, line, n)
 }
 
 // Puts the number and what it means.
-fn begin(number: u32, line: &mut [u8]) -> usize {
-    let n = page::form(b"refused #: ", &[number as usize], line, 0);
-    meanings::put(number, line, n)
+fn begin(refusal: Refusal, line: &mut [u8]) -> usize {
+    let n = page::form(b"refused #: ", &[refusal as usize], line, 0);
+    meanings::put(refusal, line, n)
 }
 
 // Says the line. The exit status is the number.
-fn end(rt: &impl Errors, number: u32, line: &mut [u8], at: usize) -> i32 {
+fn end(rt: &impl Errors, refusal: Refusal, line: &mut [u8], at: usize) -> i32 {
     let n = page::put(b"\n", line, at);
     rt.say(octets::first(line, n));
-    meanings::exit_status(number)
+    meanings::exit_status(refusal)
 }
 
 // What would be accepted.
-fn word_hint(number: u32, length: usize, line: &mut [u8], at: usize) -> usize {
-    match number {
-        8 => page::put(b"; BITS is 1 to 65536", line, at),
-        12 => no_bit(line, at),
-        17 => put_length(length, line, at),
+fn word_hint(refusal: Refusal, length: usize, line: &mut [u8], at: usize) -> usize {
+    match refusal {
+        Refusal::Parameter => page::put(b"; BITS is 1 to 65536", line, at),
+        Refusal::NoBit => no_bit(line, at),
+        Refusal::ControlLength => put_length(length, line, at),
         _ => at,
     }
 }
 
-fn bits_hint(number: u32, d: usize, received: usize, line: &mut [u8], at: usize) -> usize {
-    match number {
-        8 => put_received(received, line, at),
-        12 => no_bit(line, at),
-        13 => page::form(
+fn bits_hint(refusal: Refusal, d: usize, received: usize, line: &mut [u8], at: usize) -> usize {
+    match refusal {
+        Refusal::Parameter => put_received(received, line, at),
+        Refusal::NoBit => no_bit(line, at),
+        Refusal::NoRoom => page::form(
             b"; a word of # bits takes 3 times #: #",
             &[d, d, parts::times(3, d)],
             line,
             at,
         ),
-        14 => page::form(
+        Refusal::Unsent => page::form(
             b"; a bit and its copy # places on differ",
             &[parts::times(3, d)],
             line,
             at,
         ),
-        17 => page::form(b"; LENGTH is #", &[d], line, at),
+        Refusal::ControlLength => page::form(b"; LENGTH is #", &[d], line, at),
         _ => at,
     }
 }

@@ -1,7 +1,7 @@
 // Requests from standard input, one to a line, and their answers to standard output.
 #![tactic(auto)]
 
-ghost use Rattle.std.specs.Prelude.{◌≤◌, ◌<◌, ◌≡◌, length};
+ghost use Rattle.std.specs.Prelude.{◌≤◌, ◌<◌, ◌≡◌, IfOk, IfSome, length};
 ghost use Rattle.stream.specs.Room.{Stands};
 ghost use Rattle.requests.specs.Room.{Roomy};
 
@@ -9,7 +9,7 @@ use console::errors::Errors;
 use console::{errors, status};
 use requests::{answers, lines};
 use std::io::{Error, Read};
-use text::octets;
+use text::{octets, words};
 
 // The octets of the longest line, its newline not counted.
 const LINE_ROOM: usize = 600_000;
@@ -33,10 +33,13 @@ pub struct Reading {
     pub long: bool,
     // Octets of the output that wait to be written.
     pub waiting: usize,
-    // Whether the input has ended, or reading or writing has failed.
-    pub done: bool,
-    // Whether reading or writing has failed.
-    pub failed: bool,
+}
+
+// What has failed, and why.
+#[derive(Drop)]
+enum Failed {
+    Input(Error),
+    Output(Error),
 }
 
 pub fn replay(rt: &(impl Input + Print + Errors)) -> i32 {
@@ -46,7 +49,7 @@ pub fn replay(rt: &(impl Input + Print + Errors)) -> i32 {
     let mut lent = [0u8; LENT_ROOM];
     let mut chunk = io::large_buffer();
     let mut out = [0u8; OUT_ROOM];
-    read_all(
+    let read = read_all(
         rt,
         &mut rt.reader(),
         &mut line,
@@ -55,13 +58,23 @@ pub fn replay(rt: &(impl Input + Print + Errors)) -> i32 {
         &mut lent,
         &mut chunk,
         &mut out,
-    )
+    );
+    exit_status(rt, read)
 }
 
-// A proved loop has to end, and nothing says that the input does. So the turns are counted down
-// from a number that no run uses up.
+fn exit_status(rt: &impl Errors, read: Result<(), Failed>) -> i32 {
+    match read {
+        Ok(()) => return status::DONE,
+        Err(Failed::Input(why)) => errors::fail(rt, b"kuambyte: standard input", &why),
+        Err(Failed::Output(why)) => errors::fail(rt, b"kuambyte: standard output", &why),
+    }
+    status::FAILED
+}
+
+// A proved loop has to end, and nothing says that the input does. So there are as many turns as no
+// run uses up.
 fn read_all(
-    rt: &(impl Print + Errors),
+    rt: &impl Print,
     input: &mut impl Read,
     line: &mut [u8],
     records: &mut [u8],
@@ -69,38 +82,27 @@ fn read_all(
     lent: &mut [u8],
     chunk: &mut [u8],
     out: &mut [u8],
-) -> i32
+) -> Result<(), Failed>
     requires { (0 < length chunk.old) × Roomy 0 lent.old out.old }
 {
     let mut reading = Reading {
         held: 0,
         long: false,
         waiting: 0,
-        done: false,
-        failed: false,
     };
-    let mut turns = u64::MAX;
-    while turns > 0 {
-        reading = read_some(rt, input, line, records, bits, lent, chunk, out, reading);
-        if reading.done {
-            return ended(reading.failed);
+    for _turn in 0..u64::MAX {
+        match read_some(rt, input, line, records, bits, lent, chunk, out, reading)? {
+            Some(next) => reading = next,
+            None => break,
         }
-        turns -= 1;
     }
-    status::DONE
+    Ok(())
 }
 
-// The exit status.
-fn ended(failed: bool) -> i32 {
-    if failed {
-        return status::FAILED;
-    }
-    status::DONE
-}
-
-// Reads once, and answers each line that has ended.
+// Reads once, and answers each line that has ended. What waits is written before the next read, so that
+// who types requests sees each answer at once, and a read that failed is reported behind the answers.
 fn read_some(
-    rt: &(impl Print + Errors),
+    rt: &impl Print,
     input: &mut impl Read,
     line: &mut [u8],
     records: &mut [u8],
@@ -109,14 +111,19 @@ fn read_some(
     chunk: &mut [u8],
     out: &mut [u8],
     reading: Reading,
-) -> Reading
+) -> Result<Option<Reading>, Failed>
     requires { (0 < length chunk.old) × Stands reading line.old lent.old out.old }
-    ensures { Stands result line.old lent.old out.old }
+    ensures { IfOk result (λ next. IfSome next (λ r. Stands r line.old lent.old out.old)) }
 {
     let got = input.read(chunk);
     let n = received(&got, chunk);
-    let after = answer_lines(rt, &chunk[0..n], line, records, bits, lent, out, reading);
-    finish(rt, got, out, after)
+    let answered = answer_lines(rt, &chunk[..n], line, records, bits, lent, out, reading)?;
+    let after = flush(rt, out, answered)?;
+    match got {
+        Ok(0) => Ok(None),
+        Ok(_) => Ok(Some(after)),
+        Err(why) => Err(Failed::Input(why)),
+    }
 }
 
 // How many octets came. The end of the input ends the last line, as a newline would.
@@ -124,56 +131,18 @@ fn received(got: &Result<usize, Error>, chunk: &mut [u8]) -> usize
     requires { 0 < length chunk.old }
     ensures { result ≤ length chunk.old }
 {
-    if let Ok(n) = got {
-        if *n > 0 {
-            return octets::least(*n, chunk.len());
-        }
-    }
-    chunk[0] = b'\n';
-    1
-}
-
-// Writes what waits before the next read, so that who types requests sees each answer at once. A
-// read that failed is reported behind the answers.
-fn finish(
-    rt: &(impl Print + Errors),
-    got: Result<usize, Error>,
-    out: &[u8],
-    reading: Reading,
-) -> Reading
-    requires { reading.waiting ≤ length out.now }
-    ensures { (result.held ≡ reading.held) × (result.waiting ≡ 0) }
-{
-    let mut after = flush(rt, out, reading);
-    if after.done {
-        return after;
-    }
-    after.failed = has_failed(rt, &got);
-    after.done = is_last(&got);
-    after
-}
-
-// Whether reading failed; the reason is said.
-fn has_failed(rt: &impl Errors, got: &Result<usize, Error>) -> bool {
     match got {
-        Ok(_) => false,
-        Err(why) => {
-            errors::fail(rt, b"kuambyte: standard input", why);
-            true
+        Ok(n) if *n > 0 => chunk.len().min(*n),
+        _ => {
+            chunk[0] = b'\n';
+            1
         }
-    }
-}
-
-fn is_last(got: &Result<usize, Error>) -> bool {
-    match got {
-        Ok(n) => *n == 0,
-        Err(_) => true,
     }
 }
 
 // Answers each line that ends in the chunk, and holds what stands behind the last.
 fn answer_lines(
-    rt: &(impl Print + Errors),
+    rt: &impl Print,
     chunk: &[u8],
     line: &mut [u8],
     records: &mut [u8],
@@ -181,32 +150,16 @@ fn answer_lines(
     lent: &mut [u8],
     out: &mut [u8],
     mut reading: Reading,
-) -> Reading
+) -> Result<Reading, Failed>
     requires { Stands reading line.old lent.old out.old }
-    ensures { Stands result line.old lent.old out.old }
+    ensures { IfOk result (λ r. Stands r line.old lent.old out.old) }
 {
-    let mut from = 0;
-    while from < chunk.len() {
-        let end = octets::find(chunk, from, b'\n');
-        if end == chunk.len() {
-            return hold(&chunk[from..end], line, reading);
-        }
-        reading = answer_piece(
-            rt,
-            &chunk[from..end],
-            line,
-            records,
-            bits,
-            lent,
-            out,
-            reading,
-        );
-        if reading.done {
-            return reading;
-        }
-        from = end + 1;
+    let mut left = chunk;
+    while let Some((piece, rest)) = words::split_once(left, b'\n') {
+        reading = answer_piece(rt, piece, line, records, bits, lent, out, reading)?;
+        left = rest;
     }
-    reading
+    Ok(hold(left, line, reading))
 }
 
 // Holds as much of a piece of the line as there is room for.
@@ -215,8 +168,8 @@ fn hold(piece: &[u8], line: &mut [u8], mut reading: Reading) -> Reading
     ensures { (result.held ≤ length line.old) × (result.waiting ≡ reading.waiting) }
 {
     let held = reading.held;
-    let n = octets::least(piece.len(), line.len() - held);
-    reading.held = octets::put(&piece[0..n], line, held);
+    let n = piece.len().min(line.len() - held);
+    reading.held = octets::put(&piece[..n], line, held);
     if n < piece.len() {
         reading.long = true;
     }
@@ -225,7 +178,7 @@ fn hold(piece: &[u8], line: &mut [u8], mut reading: Reading) -> Reading
 
 // Answers the line that ends with a piece, and begins the next.
 fn answer_piece(
-    rt: &(impl Print + Errors),
+    rt: &impl Print,
     piece: &[u8],
     line: &mut [u8],
     records: &mut [u8],
@@ -233,36 +186,28 @@ fn answer_piece(
     lent: &mut [u8],
     out: &mut [u8],
     reading: Reading,
-) -> Reading
+) -> Result<Reading, Failed>
     requires { Stands reading line.old lent.old out.old }
-    ensures { Stands result line.old lent.old out.old }
+    ensures { IfOk result (λ r. Stands r line.old lent.old out.old) }
 {
-    let mut ready = with_room(rt, lent, out, reading);
-    if ready.done {
-        return ready;
-    }
+    let mut ready = with_room(rt, lent, out, reading)?;
     let at = ready.waiting;
     if is_whole(piece, line, ready) {
         ready.waiting = answer_line(piece, false, records, bits, lent, out, at);
-        return ready;
+        return Ok(ready);
     }
     let whole = hold(piece, line, ready);
     let held = whole.held;
-    Reading {
+    Ok(Reading {
         held: 0,
         long: false,
-        waiting: answer_line(&line[0..held], whole.long, records, bits, lent, out, at),
-        done: false,
-        failed: false,
-    }
+        waiting: answer_line(&line[..held], whole.long, records, bits, lent, out, at),
+    })
 }
 
 // Whether a piece is a line for which there is room, so that it is answered where it stands.
 fn is_whole(piece: &[u8], line: &[u8], reading: Reading) -> bool {
-    if reading.held > 0 {
-        return false;
-    }
-    piece.len() <= line.len()
+    reading.held == 0 && piece.len() <= line.len()
 }
 
 fn answer_line(
@@ -282,26 +227,22 @@ fn answer_line(
 }
 
 // Makes room for one more answer.
-fn with_room(rt: &(impl Print + Errors), lent: &[u8], out: &[u8], reading: Reading) -> Reading
+fn with_room(rt: &impl Print, lent: &[u8], out: &[u8], reading: Reading) -> Result<Reading, Failed>
     requires { (reading.waiting ≤ length out.now) × Roomy 0 lent.now out.now }
-    ensures { (result.held ≡ reading.held) × Roomy result.waiting lent.now out.now }
+    ensures { IfOk result (λ r. (r.held ≡ reading.held) × Roomy r.waiting lent.now out.now) }
 {
     if out.len() - reading.waiting < answers::room(lent) {
         return flush(rt, out, reading);
     }
-    reading
+    Ok(reading)
 }
 
-fn flush(rt: &(impl Print + Errors), out: &[u8], mut reading: Reading) -> Reading
+fn flush(rt: &impl Print, out: &[u8], mut reading: Reading) -> Result<Reading, Failed>
     requires { reading.waiting ≤ length out.now }
-    ensures { (result.held ≡ reading.held) × (result.waiting ≡ 0) }
+    ensures { IfOk result (λ r. (r.held ≡ reading.held) × (r.waiting ≡ 0)) }
 {
     let n = reading.waiting;
+    rt.write_all(&out[..n]).map_err(Failed::Output)?;
     reading.waiting = 0;
-    if let Err(why) = rt.write_all(&out[0..n]) {
-        errors::fail(rt, b"kuambyte: standard output", &why);
-        reading.done = true;
-        reading.failed = true;
-    }
-    reading
+    Ok(reading)
 }

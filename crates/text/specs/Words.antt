@@ -1,13 +1,6 @@
 -- What the words of a request keep to inside: their octets lie within the stores that are lent.
 use Rattle.std.specs.Prelude.{ℕ, ◌-◌, ◌/◌, ◌≤◌, List, length}
-use Rattle.text.specs.declared.values.Parsed.{Parsed}
-use Rattle.text.specs.declared.values.Parsed.TheVariants.{Value, Bad}
 use Rattle.text.specs.declared.forms.Given.{Given}
-
--- the value that a word holds, and 0 where it holds none
-abbrev pub value_of : Parsed → ℕ
-value_of (Value n) = n
-value_of (Bad why) = 0
 
 -- what the words gave lies within the halves of `records` and within the other store, and what is lent within the room for it
 pub record Held (given : Given) (records bits : List ℕ) (room : ℕ) : Type 0 where

@@ -1,11 +1,10 @@
 // Forms of requests: a form is a request with a name in the place of each word, which says what the
-// word holds, and with the optional words and their defaults behind them.
-ghost use Rattle.std.specs.Prelude.{◌≡◌, ◌-◌, ◌/◌, ◌≤◌, length};
-ghost use Rattle.text.specs.Words.{Held, value_of};
+// word holds. The optional words and their defaults, which stand behind them, are lent beside it.
+ghost use Rattle.std.specs.Prelude.{◌≡◌, ◌-◌, ◌/◌, ◌≤◌, IfOk, length};
+ghost use Rattle.text.specs.Words.{Held};
 
 use crate::faults::Fault;
-use crate::octets::{find, find_near, least, same};
-use crate::values::Parsed;
+use crate::words::Words;
 use crate::{options, values, words};
 
 // The most words that a form has, the optional ones and the request's name among them.
@@ -22,170 +21,66 @@ pub struct Given {
     pub bits: usize,
     // Octets that OUTLEN lends.
     pub lent: usize,
-    // What the last word gave.
-    pub value: usize,
-    // Whether the words do not keep to the form.
-    pub bad: bool,
-    // Why, where they do not.
-    pub why: Fault,
-}
-
-impl Given {
-    fn nothing(bad: bool) -> Self
-        ensures { (result.record ≡ 0) × (result.public ≡ 0) × (result.bits ≡ 0) × (result.lent ≡ 0) }
-    {
-        Self {
-            record: 0,
-            public: 0,
-            bits: 0,
-            lent: 0,
-            value: 0,
-            bad,
-            why: Fault::Words,
-        }
-    }
-
-    fn with_record(self, word: Parsed) -> Self
-        ensures { (result.record ≡ value_of word) × (result.public ≡ self.public) × (result.bits ≡ self.bits) × (result.lent ≡ self.lent) }
-    {
-        let mut given = self.with(word);
-        given.record = given.value;
-        given
-    }
-
-    fn with_public(self, word: Parsed) -> Self
-        ensures { (result.record ≡ self.record) × (result.public ≡ value_of word) × (result.bits ≡ self.bits) × (result.lent ≡ self.lent) }
-    {
-        let mut given = self.with(word);
-        given.public = given.value;
-        given
-    }
-
-    fn with_bits(self, word: Parsed) -> Self
-        ensures { (result.record ≡ self.record) × (result.public ≡ self.public) × (result.bits ≡ value_of word) × (result.lent ≡ self.lent) }
-    {
-        let mut given = self.with(word);
-        given.bits = given.value;
-        given
-    }
-
-    fn with_lent(self, word: Parsed) -> Self
-        ensures { (result.record ≡ self.record) × (result.public ≡ self.public) × (result.bits ≡ self.bits) × (result.lent ≡ value_of word) }
-    {
-        let mut given = self.with(word);
-        given.lent = given.value;
-        given
-    }
-
-    fn with(self, word: Parsed) -> Self
-        ensures { (result.value ≡ value_of word) × (result.record ≡ self.record) × (result.public ≡ self.public) × (result.bits ≡ self.bits) × (result.lent ≡ self.lent) }
-    {
-        match word {
-            Parsed::Value(value) => Self {
-                record: self.record,
-                public: self.public,
-                bits: self.bits,
-                lent: self.lent,
-                value,
-                bad: false,
-                why: Fault::Words,
-            },
-            Parsed::Bad(why) => Self {
-                record: self.record,
-                public: self.public,
-                bits: self.bits,
-                lent: self.lent,
-                value: 0,
-                bad: true,
-                why,
-            },
-        }
-    }
 }
 
 // Reads the words of a request by its form. `numbers` takes what each holds, at the place that it has
-// in the form: a number or, of octets, how many they are.
+// in the form: a number or, of octets, how many they are. A fault of the words as a whole comes before
+// that of one of them, so it is asked for where there is a fault.
 pub fn read(
     form: &[u8],
+    optional: &[u8],
     request: &[u8],
     numbers: &mut [usize],
     records: &mut [u8],
     bits: &mut [u8],
     room: usize,
-) -> Given
-    ensures { Held result records.old bits.old room }
+) -> Result<Given, Fault>
+    ensures { IfOk result (λ given. Held given records.old bits.old room) }
 {
-    let given = read_words(form, request, numbers, records, bits, room);
-    if !given.bad {
-        return given;
+    match read_words(form, optional, request, numbers, records, bits, room) {
+        Ok(given) => Ok(given),
+        Err(why) if is_counted(form, optional, request) => Err(why),
+        Err(_) => Err(Fault::Words),
     }
-    if is_counted(form, request) {
-        return given;
-    }
-    Given::nothing(true)
 }
 
-// Whether the optional words are the form's, and the others as many as the form's. A fault of the words
-// as a whole comes before that of one of them, so this is asked where there is a fault.
-fn is_counted(form: &[u8], request: &[u8]) -> bool {
-    let n = options::start(form);
-    let m = options::start(request);
-    if words::count(&form[0..n]) != words::count(&request[0..m]) {
-        return false;
-    }
-    options::are_known(words::from(form, n), words::from(request, m))
+// Whether the optional words are the form's, and the others as many as the form's.
+fn is_counted(form: &[u8], optional: &[u8], request: &[u8]) -> bool {
+    let n = options::start(request);
+    words::count(form) == words::count(&request[..n]) && options::are_known(optional, &request[n..])
 }
 
 // Goes over the form and the line together, up to the first word that does not keep to the form.
 fn read_words(
     form: &[u8],
+    optional: &[u8],
     line: &[u8],
     numbers: &mut [usize],
     records: &mut [u8],
     bits: &mut [u8],
     room: usize,
-) -> Given
-    ensures { Held result records.old bits.old room }
+) -> Result<Given, Fault>
+    ensures { IfOk result (λ given. Held given records.old bits.old room) }
 {
-    let mut given = Given::nothing(false);
+    let mut given = Given {
+        record: 0,
+        public: 0,
+        bits: 0,
+        lent: 0,
+    };
+    let mut words = Words::behind_first(line);
     let mut k = 1;
-    let mut of_form = find_near(form, 0, b' ');
-    let mut at = find_near(line, 0, b' ');
-    while of_form < form.len() {
-        let name = of_form + 1;
-        if is_optional(&form[name..]) {
-            break;
+    for name in form.split(|x| *x == b' ').skip(1) {
+        let word = words.next().unwrap_or(b"");
+        let value = read_word(name, word, records, bits, room, &mut given)?;
+        if k < numbers.len() {
+            numbers[k] = value;
+            k += 1;
         }
-        let word = least(at + 1, line.len());
-        of_form = find_near(form, name, b' ');
-        at = find(line, word, b' ');
-        given = read_word(
-            &form[name..of_form],
-            &line[word..at],
-            records,
-            bits,
-            room,
-            given,
-        );
-        if given.bad {
-            return given;
-        }
-        k = values::keep(given.value, numbers, k);
     }
-    let kept = least(k, numbers.len());
-    given.with(options::read(
-        words::from(form, of_form),
-        &line[at..],
-        &mut numbers[kept..],
-    ))
-}
-
-// Whether an optional word stands first in a part of a form: the names of the others are in capitals.
-fn is_optional(form: &[u8]) -> bool {
-    if form.len() == 0 {
-        return false;
-    }
-    form[0] >= b'a'
+    let kept = k.min(numbers.len());
+    options::read(optional, words.rest(), &mut numbers[kept..])?;
+    Ok(given)
 }
 
 // What a word of a form holds.
@@ -204,34 +99,13 @@ enum Kind {
 
 // By the name of the word; each other name is that of a number.
 fn kind_of(name: &[u8]) -> Kind {
-    if same(name, b"RECORD") {
-        return Kind::First;
+    match name {
+        b"RECORD" | b"PACKED" | b"PRIVATE" => Kind::First,
+        b"PUBLIC" | b"ADDED" => Kind::Second,
+        b"BLOCK" => Kind::Block,
+        b"BITS" | b"PLACES" | b"STREAMS" => Kind::Bits,
+        _ => Kind::Other,
     }
-    if same(name, b"PACKED") {
-        return Kind::First;
-    }
-    if same(name, b"PRIVATE") {
-        return Kind::First;
-    }
-    if same(name, b"PUBLIC") {
-        return Kind::Second;
-    }
-    if same(name, b"ADDED") {
-        return Kind::Second;
-    }
-    if same(name, b"BLOCK") {
-        return Kind::Block;
-    }
-    if same(name, b"BITS") {
-        return Kind::Bits;
-    }
-    if same(name, b"PLACES") {
-        return Kind::Bits;
-    }
-    if same(name, b"STREAMS") {
-        return Kind::Bits;
-    }
-    Kind::Other
 }
 
 fn read_word(
@@ -240,54 +114,61 @@ fn read_word(
     records: &mut [u8],
     bits: &mut [u8],
     room: usize,
-    given: Given,
-) -> Given
-    requires { Held given records.old bits.old room }
-    ensures { Held result records.old bits.old room }
+    given: &mut Given,
+) -> Result<usize, Fault>
+    requires { Held given.old records.old bits.old room }
+    ensures { Held given.new records.old bits.old room }
 {
-    if word.len() == 0 {
-        return given.with(Parsed::Bad(Fault::Words));
+    if word.is_empty() {
+        return Err(Fault::Words);
     }
-    let what = kind_of(name);
-    match what {
-        Kind::First => given.with_record(first_half(word, records)),
-        Kind::Second => given.with_public(second_half(word, records)),
-        Kind::Block => given.with_bits(values::block(word, bits)),
-        Kind::Bits => given.with_bits(values::bits(word, bits)),
+    match kind_of(name) {
+        Kind::First => {
+            given.record = first_half(word, records)?;
+            Ok(given.record)
+        }
+        Kind::Second => {
+            given.public = second_half(word, records)?;
+            Ok(given.public)
+        }
+        Kind::Block => {
+            given.bits = values::block(word, bits)?;
+            Ok(given.bits)
+        }
+        Kind::Bits => {
+            given.bits = values::bits(word, bits)?;
+            Ok(given.bits)
+        }
         Kind::Other => read_number(name, word, room, given),
     }
 }
 
-fn first_half(word: &[u8], records: &mut [u8]) -> Parsed
-    ensures { value_of result ≤ length records.old / 2 }
+fn first_half(word: &[u8], records: &mut [u8]) -> Result<usize, Fault>
+    ensures { IfOk result (λ n. n ≤ length records.old / 2) }
 {
     let half = records.len() / 2;
-    values::octets(word, &mut records[0..half])
+    values::octets(word, &mut records[..half])
 }
 
-fn second_half(word: &[u8], records: &mut [u8]) -> Parsed
-    ensures { value_of result ≤ length records.old - length records.old / 2 }
+fn second_half(word: &[u8], records: &mut [u8]) -> Result<usize, Fault>
+    ensures { IfOk result (λ n. n ≤ length records.old - length records.old / 2) }
 {
     let half = records.len() / 2;
     values::octets(word, &mut records[half..])
 }
 
 // The names of numbers that have a range or another form; each other number has 64 bits.
-fn read_number(name: &[u8], word: &[u8], room: usize, given: Given) -> Given
-    requires { given.lent ≤ room }
-    ensures { (result.record ≡ given.record) × (result.public ≡ given.public) × (result.bits ≡ given.bits) × (result.lent ≤ room) }
+fn read_number(name: &[u8], word: &[u8], room: usize, given: &mut Given) -> Result<usize, Fault>
+    requires { given.old.lent ≤ room }
+    ensures { (given.new.record ≡ given.old.record) × (given.new.public ≡ given.old.public) × (given.new.bits ≡ given.old.bits) × (given.new.lent ≤ room) }
 {
-    if same(name, b"OUTLEN") {
-        return given.with_lent(values::outlen(word, room));
+    match name {
+        b"OUTLEN" => {
+            given.lent = values::outlen(word, room)?;
+            Ok(given.lent)
+        }
+        b"TENANT" | b"PROFILE" => values::short(word),
+        b"MASK" => values::mask(word),
+        _ => values::number(word),
     }
-    if same(name, b"TENANT") {
-        return given.with(values::short(word));
-    }
-    if same(name, b"PROFILE") {
-        return given.with(values::short(word));
-    }
-    if same(name, b"MASK") {
-        return given.with(values::mask(word));
-    }
-    given.with(values::number(word))
 }

@@ -2,26 +2,17 @@
 ghost use Rattle.std.specs.Prelude.{◌≡◌, ◌+◌, ◌<◌, ◌≤◌, length};
 
 pub fn same(s: &[u8], t: &[u8]) -> bool {
-    if s.len() != t.len() {
-        return false;
-    }
-    let mut i = 0;
-    while i < s.len() {
-        if s[i] != t[i] {
-            return false;
-        }
-        i += 1;
-    }
-    true
+    s == t
 }
 
-// The place of the first such octet at `from` or behind it, or the end where there is none.
+// The place of the first such octet at `from` or behind it, or the end where there is none. It is looked
+// for by long stretches, then by short ones, and then octet by octet.
 pub fn find(s: &[u8], from: usize, octet: u8) -> usize
     requires { from ≤ length s.now }
     ensures { (from ≤ result) × (result ≤ length s.now) }
 {
-    let far = pass_long(s, from, octet);
-    let near = pass(s, far, octet);
+    let far = pass::<64>(s, from, octet);
+    let near = pass::<16>(s, far, octet);
     find_near(s, near, octet)
 }
 
@@ -30,68 +21,34 @@ pub fn find_near(s: &[u8], from: usize, octet: u8) -> usize
     requires { from ≤ length s.now }
     ensures { (from ≤ result) × (result ≤ length s.now) }
 {
-    let mut i = from;
-    while i < s.len() {
+    for i in from..s.len() {
         if s[i] == octet {
             return i;
         }
-        i += 1;
     }
-    i
+    s.len()
 }
 
-// Goes on from `from` by long stretches that have no such octet, up to one that has it or is not whole.
-fn pass_long(s: &[u8], from: usize, octet: u8) -> usize
-    requires { from ≤ length s.now }
+// Goes on from `from` by stretches of N that have no such octet, up to one that has it or is not whole.
+fn pass<const N: usize>(s: &[u8], from: usize, octet: u8) -> usize
+    requires { (from ≤ length s.now) × (1 ≤ N) × (N ≤ 64) }
     ensures { (from ≤ result) × (result ≤ length s.now) }
 {
-    let mut i = from;
-    while s.len() - i >= 64 {
-        if is_in_64(s, i, octet) {
-            return i;
+    let mut left = &s[from..];
+    while let Some((stretch, rest)) = left.split_first_chunk::<N>() {
+        if is_in(stretch, octet) {
+            break;
         }
-        i += 64;
+        left = rest;
     }
-    i
+    s.len() - left.len()
 }
 
-// The same by short stretches.
-fn pass(s: &[u8], from: usize, octet: u8) -> usize
-    requires { from ≤ length s.now }
-    ensures { (from ≤ result) × (result ≤ length s.now) }
-{
-    let mut i = from;
-    while s.len() - i >= 16 {
-        if is_in_16(s, i, octet) {
-            return i;
-        }
-        i += 16;
-    }
-    i
-}
-
-// Whether the octet is one of the 64 from `at` on. No turn leaves early, so that many are compared at
-// once.
-fn is_in_64(s: &[u8], at: usize, octet: u8) -> bool
-    requires { at + 64 ≤ length s.now }
-{
+// No turn leaves early, so that many are compared at once.
+fn is_in<const N: usize>(stretch: &[u8; N], octet: u8) -> bool {
     let mut found = false;
-    let mut k = 0;
-    while k < 64 {
-        found = found | (s[at + k] == octet);
-        k += 1;
-    }
-    found
-}
-
-fn is_in_16(s: &[u8], at: usize, octet: u8) -> bool
-    requires { at + 16 ≤ length s.now }
-{
-    let mut found = false;
-    let mut k = 0;
-    while k < 16 {
-        found = found | (s[at + k] == octet);
-        k += 1;
+    for x in stretch {
+        found |= *x == octet;
     }
     found
 }
@@ -101,12 +58,9 @@ pub fn put(s: &[u8], t: &mut [u8], at: usize) -> usize
     requires { at + length s.now ≤ length t.old }
     ensures { result ≡ at + length s.now }
 {
-    let mut i = 0;
-    while i < s.len() {
-        t[at + i] = s[i];
-        i += 1;
-    }
-    at + i
+    let end = at + s.len();
+    t[at..end].copy_from_slice(s);
+    end
 }
 
 pub fn put_one(octet: u8, t: &mut [u8], at: usize) -> usize
@@ -120,18 +74,14 @@ pub fn put_one(octet: u8, t: &mut [u8], at: usize) -> usize
 pub fn least(a: usize, b: usize) -> usize
     ensures { (result ≤ a) × (result ≤ b) }
 {
-    if a < b {
-        return a;
-    }
-    b
+    a.min(b)
 }
 
 // The first n octets, or all of them where there are fewer.
 pub fn first(s: &[u8], n: usize) -> &[u8]
     ensures { length result.now ≤ length s.now }
 {
-    let k = least(n, s.len());
-    &s[0..k]
+    &s[..least(n, s.len())]
 }
 
 // Two neighbours as one number, the first of them times `step / 256`. They are read as one word and moved
@@ -146,11 +96,5 @@ fn word(s: &[u8], at: usize) -> u32
     requires { at + 2 ≤ length s.now }
     ensures { result < 65536 }
 {
-    to_u32(s[at]) + to_u32(s[at + 1]) * 256
-}
-
-fn to_u32(x: u8) -> u32
-    ensures { result < 256 }
-{
-    x as u32
+    u32::from(s[at]) + u32::from(s[at + 1]) * 256
 }

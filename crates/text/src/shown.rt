@@ -51,24 +51,20 @@ fn put_places(s: &[u8], out: &mut [u8], at: usize) -> usize
     requires { at + length s.now ≤ length out.old }
     ensures { result ≡ at + digits_of Shown.Places (length s.now) }
 {
-    let mut k = 0;
-    while k < s.len() {
-        out[at + k] = b'0' + s[k] % 16;
-        k += 1;
+    for (k, place) in s.iter().enumerate() {
+        out[at + k] = b'0' + *place % 16;
     }
-    at + k
+    at + s.len()
 }
 
 fn put_octets(s: &[u8], out: &mut [u8], at: usize) -> usize
     requires { at + 2 * length s.now ≤ length out.old }
     ensures { result ≡ at + digits_of Shown.Octets (length s.now) }
 {
-    let mut k = 0;
-    while k < s.len() {
-        put_octet(s[k], out, at + 2 * k);
-        k += 1;
+    for (k, octet) in s.iter().enumerate() {
+        put_octet(*octet, out, at + 2 * k);
     }
-    at + 2 * k
+    at + 2 * s.len()
 }
 
 fn put_octet(octet: u8, out: &mut [u8], at: usize)
@@ -93,10 +89,8 @@ fn put_bits(s: &[u8], out: &mut [u8], at: usize) -> usize
 fn put_twos(s: &[u8], n: usize, out: &mut [u8], at: usize)
     requires { (2 * n ≤ length s.now) × (at + n ≤ length out.old) }
 {
-    let mut k = 0;
-    while k < n {
+    for k in 0..n {
         out[at + k] = joined(s, 2 * k, 513);
-        k += 1;
     }
 }
 
@@ -104,10 +98,8 @@ fn put_twos(s: &[u8], n: usize, out: &mut [u8], at: usize)
 fn put_fours(n: usize, out: &mut [u8], at: usize)
     requires { at + 3 * n ≤ length out.old }
 {
-    let mut k = 0;
-    while k < n {
+    for k in 0..n {
         out[at + k] = character(joined(out, at + n + 2 * k, 1025) % 16);
-        k += 1;
     }
 }
 
@@ -117,10 +109,8 @@ fn put_last(s: &[u8], n: usize, out: &mut [u8], at: usize) -> usize
     ensures { (result ≡ at + digits_of Shown.Bits (length s.now)) × (result ≤ at + 2 * length s.now) }
 {
     let end = (s.len() + 7) / 8 * 2;
-    let mut k = n;
-    while k < end {
+    for k in n..end {
         out[at + k] = character(four(s, 4 * k));
-        k += 1;
     }
     at + end
 }

@@ -1,41 +1,12 @@
 // What the words of a request hold: numbers, bits and octets.
-ghost use Rattle.std.specs.Prelude.{◌≡◌, ◌+◌, ◌*◌, ◌<◌, ◌≤◌, length};
-ghost use Rattle.text.specs.Words.{value_of};
+ghost use Rattle.std.specs.Prelude.{◌≡◌, ◌+◌, ◌*◌, ◌<◌, ◌≤◌, IfOk, length};
 
 use crate::faults::Fault;
-use crate::octets::{joined, least, same};
-use bits::inner::to_usize;
+use crate::octets::joined;
 use std::num::{wrapping_add_u8, wrapping_sub_u8};
 
 // The octets of the longest block, which shares the store of bits.
 const BLOCK_ROOM: usize = 4_096;
-
-// What a word holds, or why it holds nothing. Of a word of bits or octets they go into a store that
-// is lent, whose length is the most that there is room for, and the value is how many they are.
-#[derive(Clone, Copy)]
-pub enum Parsed {
-    Value(usize),
-    Bad(Fault),
-}
-
-// The value, or 0 where there is none.
-pub fn value_of(parsed: Parsed) -> usize
-    ensures { result ≡ value_of parsed }
-{
-    match parsed {
-        Parsed::Value(n) => n,
-        Parsed::Bad(_) => 0,
-    }
-}
-
-// Puts a value at place k of `numbers`, where there is one, and answers the next.
-pub fn keep(value: usize, numbers: &mut [usize], k: usize) -> usize {
-    if k < numbers.len() {
-        numbers[k] = value;
-        return k + 1;
-    }
-    k
-}
 
 pub fn is_digit(octet: u8) -> bool {
     wrapping_sub_u8(octet, b'0') < 10
@@ -50,182 +21,120 @@ fn letter(octet: u8) -> u8 {
 // The value of a hexadecimal digit. There is no branch here and in `excess`, so that many digits are
 // read at once.
 fn digit(octet: u8) -> u8 {
-    lesser(
-        wrapping_sub_u8(octet, b'0'),
-        wrapping_add_u8(letter(octet), 10),
-    )
+    wrapping_sub_u8(octet, b'0').min(wrapping_add_u8(letter(octet), 10))
 }
 
 // How far an octet lies behind the hexadecimal digits: 0 for a digit and for no other.
 fn excess(octet: u8) -> u8 {
-    lesser(
-        over(wrapping_sub_u8(octet, b'0'), 9),
-        over(letter(octet), 5),
-    )
-}
-
-fn lesser(a: u8, b: u8) -> u8 {
-    if a < b {
-        return a;
-    }
-    b
+    over(wrapping_sub_u8(octet, b'0'), 9).min(over(letter(octet), 5))
 }
 
 // By how much x is over `most`.
 fn over(x: u8, most: u8) -> u8 {
-    if x < most {
-        return 0;
-    }
-    x - most
+    x.saturating_sub(most)
 }
 
 // A number has at most 64 bits, as a `usize` has.
-pub fn number(word: &[u8]) -> Parsed {
-    if word.len() == 0 {
-        return Parsed::Bad(Fault::Number);
+pub fn number(word: &[u8]) -> Result<usize, Fault> {
+    if word.is_empty() {
+        return Err(Fault::Number);
     }
     let mut value: usize = 0;
-    let mut i = 0;
-    while i < word.len() {
-        if !is_digit(word[i]) {
-            return Parsed::Bad(Fault::Number);
+    for x in word {
+        if !is_digit(*x) {
+            return Err(Fault::Number);
         }
-        let d = to_usize(word[i] % 16);
-        let next = with_digit(value, d);
-        if let Parsed::Bad(_) = next {
-            return next;
-        }
-        value = value_of(next);
-        i += 1;
+        value = with_digit(value, usize::from(*x % 16)).ok_or(Fault::Number)?;
     }
-    Parsed::Value(value)
+    Ok(value)
 }
 
-// A number with one more digit. Most are far from the top, which is quickly seen.
-fn with_digit(value: usize, d: usize) -> Parsed
-    requires { d < 16 }
-{
-    if value < usize::MAX / 16 {
-        return Parsed::Value(value * 10 + d);
-    }
-    if value > (usize::MAX - d) / 10 {
-        return Parsed::Bad(Fault::Number);
-    }
-    Parsed::Value(value * 10 + d)
+// A number with one more digit, where that has at most 64 bits.
+fn with_digit(value: usize, d: usize) -> Option<usize> {
+    value.checked_mul(10)?.checked_add(d)
 }
 
 // A mask has 1 to 16 hexadecimal digits, so that none goes over the top of a `usize`.
-pub fn mask(word: &[u8]) -> Parsed {
+pub fn mask(word: &[u8]) -> Result<usize, Fault> {
     if !bits::inner::is_within(1, 16, word.len()) {
-        return Parsed::Bad(Fault::Number);
+        return Err(Fault::Number);
     }
     let mut value: usize = 0;
-    let mut i = 0;
-    while i < word.len() {
-        if excess(word[i]) > 0 {
-            return Parsed::Bad(Fault::Number);
+    for x in word {
+        if excess(*x) > 0 {
+            return Err(Fault::Number);
         }
-        value = (value << 4) | to_usize(digit(word[i]));
-        i += 1;
+        value = (value << 4) | usize::from(digit(*x));
     }
-    Parsed::Value(value)
+    Ok(value)
 }
 
 // A number of two octets.
-pub fn short(word: &[u8]) -> Parsed {
-    match number(word) {
-        Parsed::Bad(why) => Parsed::Bad(why),
-        Parsed::Value(n) => two_octets(n),
-    }
-}
-
-fn two_octets(n: usize) -> Parsed {
+pub fn short(word: &[u8]) -> Result<usize, Fault> {
+    let n = number(word)?;
     if n > 65535 {
-        return Parsed::Bad(Fault::Number);
+        return Err(Fault::Number);
     }
-    Parsed::Value(n)
+    Ok(n)
 }
 
 // A number that has two octets, as such; 0 for a larger one, which is not read so far.
 pub fn short_of(n: usize) -> u16 {
-    if n > 65535 {
-        return 0;
-    }
-    n as u16
+    u16::try_from(n).unwrap_or(0)
 }
 
 // The length of an output, for which there is so much room.
-pub fn outlen(word: &[u8], room: usize) -> Parsed
-    ensures { value_of result ≤ room }
+pub fn outlen(word: &[u8], room: usize) -> Result<usize, Fault>
+    ensures { IfOk result (λ n. n ≤ room) }
 {
-    match number(word) {
-        Parsed::Bad(why) => Parsed::Bad(why),
-        Parsed::Value(n) => at_most(room, n),
-    }
-}
-
-fn at_most(room: usize, n: usize) -> Parsed
-    ensures { value_of result ≤ room }
-{
+    let n = number(word)?;
     if n > room {
-        return Parsed::Bad(Fault::Long);
+        return Err(Fault::Long);
     }
-    Parsed::Value(n)
+    Ok(n)
 }
 
-// Packed octets, as those of a record.
-pub fn octets(word: &[u8], store: &mut [u8]) -> Parsed
-    ensures { value_of result ≤ length store.old }
+// Packed octets, as those of a record. The octets of a word go into a store that is lent, whose length is
+// the most that there is room for, and how many they are is answered.
+pub fn octets(word: &[u8], store: &mut [u8]) -> Result<usize, Fault>
+    ensures { IfOk result (λ n. n ≤ length store.old) }
 {
-    if same(word, b"-") {
-        return Parsed::Value(0);
+    match word {
+        b"-" => Ok(0),
+        _ => hexadecimal_octets(word, store, Fault::Hex),
     }
-    hexadecimal_octets(word, store, Fault::Hex)
 }
 
-pub fn block(word: &[u8], store: &mut [u8]) -> Parsed
-    ensures { value_of result ≤ length store.old }
+pub fn block(word: &[u8], store: &mut [u8]) -> Result<usize, Fault>
+    ensures { IfOk result (λ n. n ≤ length store.old) }
 {
-    let n = least(BLOCK_ROOM, store.len());
-    octets(word, &mut store[0..n])
+    let n = store.len().min(BLOCK_ROOM);
+    octets(word, &mut store[..n])
 }
 
-pub fn bits(word: &[u8], store: &mut [u8]) -> Parsed
-    ensures { value_of result ≤ length store.old }
+// An `x:` before the digits says that they are hexadecimal.
+pub fn bits(word: &[u8], store: &mut [u8]) -> Result<usize, Fault>
+    ensures { IfOk result (λ n. n ≤ length store.old) }
 {
-    if same(word, b"-") {
-        return Parsed::Value(0);
+    if let b"-" = word {
+        return Ok(0);
     }
-    let start = prefix(word);
-    if start == 0 {
-        return decimal_octets(word, store);
+    match word.strip_prefix(b"x:") {
+        Some(digits) => hexadecimal_octets(digits, store, Fault::Bits),
+        None => decimal_octets(word, store),
     }
-    hexadecimal_octets(&word[start..], store, Fault::Bits)
 }
 
-// How many octets stand before the digits and say that they are hexadecimal.
-fn prefix(word: &[u8]) -> usize
-    ensures { result ≤ length word.now }
-{
-    if word.len() < 2 {
-        return 0;
-    }
-    if same(&word[0..2], b"x:") {
-        return 2;
-    }
-    0
-}
-
-fn decimal_octets(digits: &[u8], store: &mut [u8]) -> Parsed
-    ensures { value_of result ≤ length store.old }
+fn decimal_octets(digits: &[u8], store: &mut [u8]) -> Result<usize, Fault>
+    ensures { IfOk result (λ n. n ≤ length store.old) }
 {
     if digits.len() > store.len() {
-        return Parsed::Bad(Fault::Long);
+        return Err(Fault::Long);
     }
-    if all_digits(digits, store) {
-        return Parsed::Value(digits.len());
+    if !all_digits(digits, store) {
+        return Err(Fault::Bits);
     }
-    Parsed::Bad(Fault::Bits)
+    Ok(digits.len())
 }
 
 // Puts each digit into the store, and answers whether all of them are digits. No turn leaves early,
@@ -234,30 +143,28 @@ fn all_digits(digits: &[u8], store: &mut [u8]) -> bool
     requires { length digits.now ≤ length store.old }
 {
     let mut good = true;
-    let mut i = 0;
-    while i < digits.len() {
-        store[i] = digits[i] % 16;
-        good = good & is_digit(digits[i]);
-        i += 1;
+    for (i, x) in digits.iter().enumerate() {
+        store[i] = *x % 16;
+        good &= is_digit(*x);
     }
     good
 }
 
 // Half an octet takes the room of a whole one, so it is too long before it is half an octet.
 // `other` is the fault of half an octet and of a character that is no digit.
-fn hexadecimal_octets(digits: &[u8], store: &mut [u8], other: Fault) -> Parsed
-    ensures { value_of result ≤ length store.old }
+fn hexadecimal_octets(digits: &[u8], store: &mut [u8], other: Fault) -> Result<usize, Fault>
+    ensures { IfOk result (λ n. n ≤ length store.old) }
 {
     if (digits.len() + 1) / 2 > store.len() {
-        return Parsed::Bad(Fault::Long);
+        return Err(Fault::Long);
     }
     if digits.len() % 2 != 0 {
-        return Parsed::Bad(other);
+        return Err(other);
     }
-    if all_pairs(digits, store) {
-        return Parsed::Value(digits.len() / 2);
+    if !all_pairs(digits, store) {
+        return Err(other);
     }
-    Parsed::Bad(other)
+    Ok(digits.len() / 2)
 }
 
 // Puts an octet into the store for every two digits, and answers whether all of them are digits; no
@@ -275,13 +182,11 @@ fn few_pairs(digits: &[u8], store: &mut [u8]) -> bool
     requires { length digits.now ≤ 2 * length store.old }
 {
     let mut other = 0u8;
-    let mut i = 0;
-    while i < digits.len() / 2 {
+    for i in 0..digits.len() / 2 {
         let high = digits[2 * i];
         let low = digits[2 * i + 1];
         store[i] = (digit(high) << 4) | digit(low);
-        other = other | excess(high) | excess(low);
-        i += 1;
+        other |= excess(high) | excess(low);
     }
     other == 0
 }
@@ -292,44 +197,37 @@ fn many_pairs(digits: &[u8], store: &mut [u8]) -> bool
 {
     let last = digits.len() - 32;
     let mut good = true;
-    let mut at = 0;
-    while at < digits.len() {
-        let from = least(at, last);
-        good = good & sixteen_pairs(digits, from, store);
-        at += 32;
+    for k in 0..digits.len() / 32 {
+        good &= sixteen_pairs(&digits[32 * k..], &mut store[16 * k..]);
     }
-    good
+    good & sixteen_pairs(&digits[last..], &mut store[last / 2..])
 }
 
-// The digits from `from` on, of which an even count stands before it.
-fn sixteen_pairs(digits: &[u8], from: usize, store: &mut [u8]) -> bool
-    requires { (from + 32 ≤ length digits.now) × (length digits.now ≤ 2 * length store.old) }
+// The first 32 digits, into the first 16 octets.
+fn sixteen_pairs(digits: &[u8], store: &mut [u8]) -> bool
+    requires { (32 ≤ length digits.now) × (16 ≤ length store.old) }
 {
     let mut row = [0u8; 32];
-    let good = all_values(digits, from, &mut row);
-    put_pairs(&row, store, from / 2);
+    let good = all_values(&digits[..32], &mut row);
+    put_pairs(&row, &mut store[..16]);
     good
 }
 
-fn all_values(digits: &[u8], from: usize, row: &mut [u8; 32]) -> bool
-    requires { from + 32 ≤ length digits.now }
+fn all_values(digits: &[u8], row: &mut [u8; 32]) -> bool
+    requires { length digits.now ≡ 32 }
 {
     let mut other = 0u8;
-    let mut k = 0;
-    while k < 32 {
-        row[k] = digit(digits[from + k]);
-        other = other | excess(digits[from + k]);
-        k += 1;
+    for (k, x) in digits.iter().enumerate() {
+        row[k] = digit(*x);
+        other |= excess(*x);
     }
     other == 0
 }
 
-fn put_pairs(row: &[u8; 32], store: &mut [u8], at: usize)
-    requires { at + 16 ≤ length store.old }
+fn put_pairs(row: &[u8; 32], store: &mut [u8])
+    requires { length store.old ≡ 16 }
 {
-    let mut i = 0;
-    while i < 16 {
-        store[at + i] = joined(row, 2 * i, 4097);
-        i += 1;
+    for i in 0..16 {
+        store[i] = joined(row, 2 * i, 4097);
     }
 }

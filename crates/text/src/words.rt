@@ -1,97 +1,65 @@
-// Words, which one space each separates, and entries of lists, which another octet may separate.
-ghost use Rattle.std.specs.Prelude.{◌≤◌, length};
+// Words, which one space each separates.
+ghost use Rattle.std.specs.Prelude.{◌<◌, ◌≤◌, IfSome, length};
+ghost use Rattle.std.specs.Iterator.{at_most};
 
-use crate::octets::{find, same};
+use crate::octets::{find, find_near};
 
-// How many words there are, or 0 where one of them is empty.
-pub fn count(text: &[u8]) -> usize {
-    let mut n = 0;
-    let mut at = 0;
-    while at <= text.len() {
-        let end = find(text, at, b' ');
-        if end == at {
-            return 0;
-        }
-        n += 1;
-        at = end + 1;
-    }
-    n
+// The words of a line, each with the space before it: the first of a line has none, so it is none of them.
+#[derive(Drop)]
+pub struct Words<'a> {
+    // What is left begins with the space before the next word.
+    rest: &'a [u8],
 }
 
-// Word k of a list, counted from 0, or an empty one where there are not so many.
-pub fn nth(list: &[u8], k: usize) -> &[u8]
-    ensures { length result.now ≤ length list.now }
+impl<'a> Words<'a> {
+    pub fn of(rest: &'a [u8]) -> Self {
+        Self { rest }
+    }
+
+    pub fn behind_first(line: &'a [u8]) -> Self {
+        Self {
+            rest: &line[find_near(line, 0, b' ')..],
+        }
+    }
+
+    pub fn rest(&self) -> &'a [u8] {
+        self.rest
+    }
+}
+
+impl<'a> Iterator for Words<'a> {
+    type Item = &'a [u8];
+
+    ghost remaining = { λ s. at_most (length s.rest.now) };
+
+    fn next(&mut self) -> Option<&'a [u8]> {
+        let (_, text) = self.rest.split_first()?;
+        let end = find(text, 0, b' ');
+        self.rest = &text[end..];
+        Some(&text[..end])
+    }
+}
+
+// How many words there are, or none where one of them is empty.
+pub fn count(text: &[u8]) -> Option<usize> {
+    if text.split(|x| *x == b' ').any(|word| word.is_empty()) {
+        return None;
+    }
+    Some(text.split(|x| *x == b' ').count())
+}
+
+// What stands before the first such octet and what behind it, where there is one.
+pub fn split_once(text: &[u8], mark: u8) -> Option<(&[u8], &[u8])>
+    ensures { IfSome result (λ parts. length parts.1.now < length text.now) }
 {
-    let mut left = k;
-    let mut at = 0;
-    while at < list.len() {
-        let end = find(list, at, b' ');
-        if left == 0 {
-            return &list[at..end];
-        }
-        left -= 1;
-        at = end + 1;
-    }
-    &list[0..0]
-}
-
-// An entry of a list: how many stand before it, where it begins, and where it ends.
-#[derive(Clone, Copy)]
-pub struct Found {
-    pub place: usize,
-    pub from: usize,
-    pub end: usize,
-}
-
-// The entry with the name: what stands before its first `mark`, or the whole of it. Where there is
-// none, an empty one behind the last.
-pub fn entry(list: &[u8], separator: u8, mark: u8, name: &[u8]) -> Found
-    ensures { (result.from ≤ result.end) × (result.end ≤ length list.now) }
-{
-    let mut place = 0;
-    let mut from = 0;
-    while from < list.len() {
-        let end = find(list, from, separator);
-        if same(before(&list[from..end], mark), name) {
-            return Found { place, from, end };
-        }
-        place += 1;
-        from = end + 1;
-    }
-    Found {
-        place,
-        from: list.len(),
-        end: list.len(),
-    }
-}
-
-// Whether there is an entry with the name.
-pub fn has(list: &[u8], separator: u8, mark: u8, name: &[u8]) -> bool {
-    let found = entry(list, separator, mark, name);
-    found.from < found.end
+    let (before, rest) = text.split_at(find(text, 0, mark));
+    let (_, behind) = rest.split_first()?;
+    Some((before, behind))
 }
 
 // What stands before the first such octet, or all where there is none.
 pub fn before(text: &[u8], mark: u8) -> &[u8]
     ensures { length result.now ≤ length text.now }
 {
-    let end = find(text, 0, mark);
-    &text[0..end]
-}
-
-// What stands behind the first such octet, or nothing where there is none.
-pub fn behind(text: &[u8], mark: u8) -> &[u8] {
-    let at = find(text, 0, mark);
-    from(text, at)
-}
-
-// What stands behind place `at`; nothing where that is the end.
-pub fn from(text: &[u8], at: usize) -> &[u8]
-    requires { at ≤ length text.now }
-{
-    if at == text.len() {
-        return &text[at..];
-    }
-    let next = at + 1;
-    &text[next..]
+    &text[..find(text, 0, mark)]
 }

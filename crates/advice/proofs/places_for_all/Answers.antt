@@ -30,14 +30,11 @@ module _ (R : List ℕ) (b : ℕ) (terms : Terms) (r : ℕ) (n : CodedBits) (min
 
 pub loop-r-init : goal.loop-r-init
 unfolding sum_below
-loop-r-init c = (search rules, refl, search rules)
-
-pub sendable-n-requires : goal.sendable-n-requires
-sendable-n-requires c = record { edition = c.args.terms.edition; of = c.requires.0 }
+loop-r-init c = (refl, search rules)
 
 pub overflow_add-all : goal.overflow_add-all
 overflow_add-all c =
-    let few : c.loop-r.r < c.args.plan.blocks = omega (arith, c.before.before.before) in
+    let few : c.loop-r.r < c.args.plan.blocks = omega (arith, c) in
     let small : c.symbol_places_for-mine.result.0 ≤ 4860 = omega (
       arith,
       mine-most c.args.profile.now c.args.plan.bits c.args.terms c.loop-r.r c.sendable-n.result _
@@ -45,12 +42,12 @@ overflow_add-all c =
       c.sendable-n.ensures.1,
     ) in
     let blocks-few : c.args.plan.blocks ≤ 64 = let k = of_fields c.args.profile.now c.args.terms.edition c.args.plan c.requires.0 in omega (arith, k.blocks_is, k.cut.most) in
-    omega (arith, small, few, blocks-few, c.loop-r.invariant.2)
+    omega (arith, small, few, blocks-few, c.loop-r.invariant.1)
 
 pub loop-r-preserved : goal.loop-r-preserved
 unfolding sum_below
 loop-r-preserved c =
-    let few : c.loop-r.r < c.args.plan.blocks = omega (arith, c.before.before.before) in
+    let few : c.loop-r.r < c.args.plan.blocks = omega (arith, c) in
     let counted : c.symbol_places_for-mine.result.0 ≡ places_for c.args.profile.now c.args.plan.bits c.args.terms c.loop-r.r = mine-is c.args.profile.now c.args.plan.bits c.args.terms _ c.sendable-n.result _
     (c.sendable-n.ensures.0 c.args.terms.edition c.requires.0) c.symbol_places_for-mine.ensures in
     let small : c.symbol_places_for-mine.result.0 ≤ 4860 = omega (
@@ -60,12 +57,12 @@ loop-r-preserved c =
       c.sendable-n.ensures.1,
     ) in
     let l = c.loop-r in
-    (omega (arith, few), rw (add-one l.r) (ap₂ (λ (x y : ℕ). x + y) l.invariant.1 counted), omega (arith, small, l.invariant.2))
+    (rw (add-one l.r) (ap₂ (λ (x y : ℕ). x + y) l.invariant.0 counted), omega (arith, small, l.invariant.1))
 
 pub returns : goal.returns
 unfolding places_for_all
 returns c =
     let l = c.loop-r in
     let k = of_fields c.args.profile.now c.args.terms.edition c.args.plan c.requires.0 in
-    let end : l.r ≡ blocks c.args.profile.now c.args.terms.edition c.args.plan.bits = omega (arith, k.blocks_is, l.invariant.0, c) in
-    l.invariant.1 ∙ ap (λ (n : ℕ). sum_below n (places_for c.args.profile.now c.args.plan.bits c.args.terms)) end
+    let end : l.r ≡ blocks c.args.profile.now c.args.terms.edition c.args.plan.bits = omega (arith, k.blocks_is, c) in
+    l.invariant.0 ∙ ap (λ (n : ℕ). sum_below n (places_for c.args.profile.now c.args.plan.bits c.args.terms)) end

@@ -5,10 +5,6 @@ use Rattle.bits.specs.Ranges.{sum_below}
 use Rattle.bits.specs.declared.count.Terms.{Terms}
 use Rattle.cutting.specs.Plan.{blocks}
 use Rattle.coding.specs.Blocks.{sendable}
-use Rattle.advice.specs.declared.Least.{Least}
-
-unfoldable pub refusal : ℕ → Least
-refusal n = record { number = n; bits = record { 0 = 0 }; blocks = 0; larger = 0; first = record { 0 = 0 }; last = record { 0 = 0 } }
 
 -- the symbol places that block r's N takes, and those that all blocks take together; b is B
 unfoldable pub places_for : List ℕ → ℕ → Terms → ℕ → ℕ

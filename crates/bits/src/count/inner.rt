@@ -8,23 +8,15 @@ use crate::count::{CodedBits, SymbolPlaces, Terms};
 fn is_order(qm: usize) -> bool
     ensures { result ≡ eqb qm 2 || eqb qm 4 || eqb qm 6 }
 {
-    if qm == 2 {
-        return true;
-    }
-    if qm == 4 {
-        return true;
-    }
-    qm == 6
+    matches!(qm, 2 | 4 | 6)
 }
 
 // Whether N_L and Q_m are ones of step 5.
+#[tactic(auto, unfolding(crate::specs::Counts::usable))]
 pub fn is_usable(terms: Terms) -> bool
     ensures { result ≡ usable terms }
 {
-    if !crate::inner::is_within(1, 4, terms.nl) {
-        return false;
-    }
-    is_order(terms.qm)
+    crate::inner::is_within(1, 4, terms.nl) && is_order(terms.qm)
 }
 
 // The bits of one symbol place on every layer.

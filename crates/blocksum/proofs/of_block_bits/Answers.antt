@@ -6,10 +6,9 @@ use Rattle.blocksum.proofs.of_block_bits.Goals as goal
 pub returns-then-some_over : goal.returns-then-some_over
 returns-then-some_over c = block_bits_refused c.args.bits.now (sym c.some_over.ensures ∙ c.if-some_over.true)
 
-pub sum-value-requires : goal.sum-value-requires
-sum-value-requires c = over_none_bits c.args.bits.now (sym c.some_over.ensures ∙ c.if-some_over.false)
+pub sum-requires : goal.sum-requires
+sum-requires c = over_none_bits c.args.bits.now (sym c.some_over.ensures ∙ c.if-some_over.false)
 
 pub returns : goal.returns
 returns c =
-    let u = c.before.before in
-    block_bits_summed u.before.before.args.bits.now (sym u.some_over.ensures ∙ c.if-some_over.false) c.sum-value.result c.sum-value.ensures
+    block_bits_summed c.args.bits.now (sym c.some_over.ensures ∙ c.if-some_over.false) c.sum.result c.sum.ensures

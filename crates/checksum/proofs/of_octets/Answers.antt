@@ -13,11 +13,11 @@ overflow_cast-width c =
     let fits = fits-register c.args.width (sym c.is_other_width.ensures ∙ c.if-is_other_width.false) in
     omega (arith, fits.most)
 
-pub sum_octets-value-requires : goal.sum_octets-value-requires
-sum_octets-value-requires c = sym c.is_other_width.ensures ∙ c.if-is_other_width.false
+pub sum_octets-requires : goal.sum_octets-requires
+sum_octets-requires c = sym c.is_other_width.ensures ∙ c.if-is_other_width.false
 
 pub returns : goal.returns
 returns c =
     let u = c.before.before in
     let a = u.before.before.args in
-    octets-summed a.width a.octets.now (sym u.is_other_width.ensures ∙ c.if-is_other_width.false) c.sum_octets-value.result c.sum_octets-value.ensures
+    octets-summed a.width a.octets.now (sym u.is_other_width.ensures ∙ c.if-is_other_width.false) c.sum_octets.result c.sum_octets.ensures

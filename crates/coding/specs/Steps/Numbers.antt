@@ -1,11 +1,17 @@
--- The numbers that are answered before any block is coded or looked at.
-use Rattle.std.specs.Prelude.{cond, not, List, [], ◌∷◌, ◌++◌, ℕ, ◌/◌, ◌%◌, eqb, length}
+-- The numbers that are answered before any block is coded or looked at, and the plan that is answered where there is none.
+use Rattle.std.specs.Prelude.{◌≡◌, cond, not, List, [], ◌∷◌, ◌++◌, ℕ, ◌/◌, ◌%◌, eqb, length}
 use Rattle.bits.specs.Bits.{some_over}
 use Rattle.bits.specs.Numbers.{answered}
 use Rattle.bits.specs.Ranges.{within}
 use Rattle.bits.specs.declared.count.Terms.{Terms}
+use Rattle.cutting.specs.Promises.{done_plan, planned}
+use Rattle.cutting.specs.declared.Plan.{Plan}
 use Rattle.coding.specs.Receiving.{some_without_room}
 use Rattle.coding.specs.Promises.{cut_conditions, request_conditions, not_octets}
+
+-- p is how a block of so many octets is cut
+abbrev pub PlanFor : List ℕ → ℕ → ℕ → Plan → Type 0
+PlanFor R ed octets p = done_plan p ≡ planned R ed octets
 
 -- 5 to 9, 16 and 19
 unfoldable pub cut_number : List ℕ → ℕ → Terms → ℕ → ℕ

@@ -6,7 +6,7 @@ use Rattle.bits.specs.declared.number.Written.{Written}
 use Rattle.bits.specs.declared.count.Terms.{Terms}
 use Rattle.profile.specs.Record.{kind, z, columns}
 use Rattle.cutting.specs.Plan.{block_bits, blocks, own_bits, carried_bits, size_index, places}
-use Rattle.cutting.specs.Promises.{plan_number, planned}
+use Rattle.cutting.specs.Promises.{plan_number, done_plan, planned}
 use Rattle.cutting.specs.declared.Plan.{Plan}
 use Rattle.matching.specs.Matching.{misversioned}
 use Rattle.matching.specs.Steps.Line.{heard}
@@ -52,7 +52,7 @@ pub record Receivable (R : List ℕ) (octets : ℕ) (terms : Terms) (bits : List
 pub record ReceivablePlan (R : List ℕ) (terms : Terms) (bits : List ℕ) (p : Plan) : Type 0 where
   pub octets : ℕ
   pub receivable : Receivable R octets terms bits
-  pub plan : p ≡ planned R terms.edition octets
+  pub plan : done_plan p ≡ planned R terms.edition octets
 
 -- the gathered bits are sent as the received ones, and stand in front of room; or they are not
 pub record Rebuilt (R : List ℕ) (terms : Terms) (bits : List ℕ) (b : ℕ) (r : Bool) (room : List ℕ) : Type 0 where

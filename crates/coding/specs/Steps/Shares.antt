@@ -15,7 +15,9 @@ pub record Allocated (terms : Terms) (g c : ℕ) : Type 0 where
   pub whole : g % place_bits terms ≡ 0
   pub blocks : 0 < c
 
--- some block's share is below N, where b is B
+-- block r's share is below N, where b is B; some block's is
+abbrev pub short : List ℕ → ℕ → Terms → ℕ → ℕ → Bool
+short R b terms g r = ltb (share terms g (blocks R terms.edition b) r).0 (sendable R terms.edition b r)
+
 abbrev pub lacking_room : List ℕ → ℕ → Terms → ℕ → Bool
-lacking_room R b terms g =
-    any_below (blocks R terms.edition b) (λ r. ltb (share terms g (blocks R terms.edition b) r).0 (sendable R terms.edition b r))
+lacking_room R b terms g = any_below (blocks R terms.edition b) (short R b terms g)

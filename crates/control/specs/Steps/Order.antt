@@ -55,10 +55,3 @@ pub record Scattered (D : ℕ) (bits : List ℕ) (n : ℕ) (a b : List ℕ) : Ty
   pub second : (j : ℕ) → j < n → get_or b (D + place D j) 0 ≡ get_or bits (D + j) 0
   pub third : (j : ℕ) → j < n → get_or b (D + D + place D j) 0 ≡ get_or bits (D + D + j) 0
   pub above : (p : ℕ) → D + D + D ≤ p → get_or b p 0 ≡ get_or a p 0
-
--- where the first n of each stream are so in a, the first r are in b
-abbrev pub CollectedOn : ℕ → List ℕ → ℕ → ℕ → List ℕ → List ℕ → Type 0
-CollectedOn D S n r a b = (o : List ℕ) → Threes D (λ k. get_or S (spot D k) 0) n o a → Threes D (λ k. get_or S (spot D k) 0) r o b
-
-abbrev pub ScatteredOn : ℕ → List ℕ → ℕ → ℕ → List ℕ → List ℕ → Type 0
-ScatteredOn D bits n r a b = (o : List ℕ) → Scattered D bits n o a → Scattered D bits r o b

@@ -1,19 +1,9 @@
-use mathlib.Core.Path.{◌≡◌, sym, ◌∙◌}
-use Rattle.profile.specs.Promises.{judged}
-use Rattle.cutting.proofs.Answers.{plan_unjudged, refused-planned}
+use Rattle.std.proofs.lemmas.Result.{err_from_is_err_and}
+use Rattle.cutting.proofs.Answers.{unjudged-planned}
 use Rattle.cutting.proofs.plan_block.Goals as goal
 
-pub returns-then-number-ne-DONE : goal.returns-then-number-ne-DONE
-returns-then-number-ne-DONE c =
+pub returns-in_err-judge : goal.returns-in_err-judge
+returns-in_err-judge c =
     let a = c.args in
-    let R = a.profile.now in
-    let n = c.judge-number in
-    let refused : judged R ≡ 0 → ⊥ = λ q. c.if-number-ne-DONE.true (n.ensures ∙ q) in
-    let number = n.ensures ∙ sym (plan_unjudged R a.edition a.octets refused) in
-    rw c.refused.ensures (refused-planned R a.edition a.octets n.result number c.if-number-ne-DONE.true)
-
-pub plan_accepted-requires : goal.plan_accepted-requires
-plan_accepted-requires c = cc
-
-pub returns : goal.returns
-returns c = c.plan_accepted.ensures
+    let p = err_from_is_err_and c.from_residual.result c.from_residual.ensures.1 in
+    rw (p.1, p.2) (unjudged-planned a.profile.now a.edition a.octets _ c.in_err-judge.ensures)

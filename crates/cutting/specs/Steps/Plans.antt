@@ -8,8 +8,9 @@ use Rattle.blocksum.specs.Blocksum.{gen24_b}
 use Rattle.profile.specs.Record.{kb, z}
 use Rattle.profile.specs.Promises.{judged}
 use Rattle.cutting.specs.Plan.{kmax, size_index_for}
-use Rattle.cutting.specs.Promises.{plan_number, planned}
+use Rattle.cutting.specs.Promises.{plan_number, done_plan, planned}
 use Rattle.cutting.specs.declared.Plan.{Plan}
+use Rattle.cutting.specs.declared.Planned.{Planned}
 
 -- R is accepted, and B bits, no more than those of the longest block, have room in `count` blocks; `most` is Kmax and `sums` is L
 pub record Counted (R : List ℕ) (bits most sums count : ℕ) : Type 0 where
@@ -22,7 +23,7 @@ pub record Counted (R : List ℕ) (bits most sums count : ℕ) : Type 0 where
   pub fits : ceil bits count + sums ≤ most
 
 -- the plan by these numbers
-unfoldable pub plan_for : List ℕ → ℕ → ℕ → ℕ → ℕ → Plan
+unfoldable pub plan_for : List ℕ → ℕ → ℕ → ℕ → ℕ → Planned
 plan_for R bits most sums count =
     let i = size_index_for R (ceil bits count + sums) in
     record { number = 0; bits = bits; kmax = most; blocks = count; places = kb R * z R i; z = z R i; index = i; sums = sums }
@@ -31,7 +32,7 @@ plan_for R bits most sums count =
 pub record PlanOf (R : List ℕ) (ed : ℕ) (p : Plan) : Type 0 where
   pub octets : ℕ
   pub taken : plan_number R ed octets ≡ 0
-  pub plan : p ≡ planned R ed octets
+  pub plan : done_plan p ≡ planned R ed octets
 
 -- in some edition
 pub record SomePlan (R : List ℕ) (p : Plan) : Type 0 where

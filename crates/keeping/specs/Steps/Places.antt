@@ -1,5 +1,7 @@
 -- Where the entry of a tenant and a profile number stands on a shelf, or belongs, and what a change of the shelf comes to before it is written.
-use Rattle.std.specs.Prelude.{◌≡◌, true, cond, ◌||◌, List, ℕ, ◌+◌, ◌-◌, ◌*◌, ◌≤◌, eqb, ltb, length}
+use Rattle.std.specs.Prelude.{◌≡◌, true, cond, ◌||◌, Result, Ok, Err, List, ℕ, ◌+◌, ◌-◌, ◌*◌, ◌≤◌, ◌<◌, eqb, ltb, length}
+use Rattle.bits.specs.declared.number.Refusal.{Refusal}
+use Rattle.bits.specs.Refusals.{refusal_number}
 use Rattle.shelf.specs.Shelf.{count, size, private_shelf}
 use Rattle.shelf.specs.Lookup.{has}
 use Rattle.keeping.specs.Entries.{Entry, entries_from, before, after, shelf_of}
@@ -17,10 +19,10 @@ pub record Spotted (S : List ℕ) (t p at gone : ℕ) : Type 0 where
 unfoldable pub freed : List ℕ → ℕ → ℕ → ℕ
 freed S at gone = gone * (8 + size S at)
 
--- 11 for an output that is shorter than n, and with 0 the place
-pub record Within (at gone n lent : ℕ) (c : Change) : Type 0 where
-  pub number : c.number ≡ cond (ltb lent n) 11 0
-  pub place : c.number ≡ 0 → (c.at ≡ at) × (c.gone ≡ gone) × (c.size ≡ n)
+-- 11 for an output that is shorter than n, else the place
+abbrev pub Within : ℕ → ℕ → ℕ → ℕ → Result Change Refusal → Type 0
+Within at gone n lent (Ok c) = (n ≤ lent) × (c.spot.at ≡ at) × (c.spot.gone ≡ gone) × (c.size ≡ n)
+Within at gone n lent (Err e) = (lent < n) × (refusal_number e ≡ 11)
 
 -- the octets of the new shelf, and 26 and 11 by it, where a record of m octets is put
 unfoldable pub size_with : List ℕ → ℕ → ℕ → ℕ → ℕ
@@ -30,9 +32,9 @@ unfoldable pub room_number : List ℕ → ℕ → ℕ → ℕ → ℕ → ℕ
 room_number S at gone m lent =
     cond (ltb 64 (count S + 1 - gone) || ltb 65535 (size_with S at gone m)) 26 (cond (ltb lent (size_with S at gone m)) 11 0)
 
-pub record Roomed (S : List ℕ) (at gone m lent : ℕ) (c : Change) : Type 0 where
-  pub number : c.number ≡ room_number S at gone m lent
-  pub place : c.number ≡ 0 → (c.at ≡ at) × (c.gone ≡ gone) × (c.size ≡ size_with S at gone m)
+abbrev pub Roomed : List ℕ → ℕ → ℕ → ℕ → ℕ → Result Change Refusal → Type 0
+Roomed S at gone m lent (Ok c) = (room_number S at gone m lent ≡ 0) × (c.spot.at ≡ at) × (c.spot.gone ≡ gone) × (c.size ≡ size_with S at gone m)
+Roomed S at gone m lent (Err e) = refusal_number e ≡ room_number S at gone m lent
 
 -- what is known once a change may be written: n is the octets of the new shelf
 pub record Ready (S : List ℕ) (t p at gone : ℕ) (es : List Entry) (n lent : ℕ) : Type 0 where
@@ -43,7 +45,7 @@ pub record Ready (S : List ℕ) (t p at gone : ℕ) (es : List Entry) (n lent : 
   pub short : n ≤ 65535
   pub room : n ≤ lent
 
--- a number, and with 0 what is known
-pub record Changes (S : List ℕ) (t p : ℕ) (es : List Entry) (lent n : ℕ) (c : Change) : Type 0 where
-  pub number : c.number ≡ n
-  pub ready : n ≡ 0 → Ready S t p c.at c.gone es c.size lent
+-- the number n of a refusal, or what is known
+abbrev pub Changes : List ℕ → ℕ → ℕ → List Entry → ℕ → ℕ → Result Change Refusal → Type 0
+Changes S t p es lent n (Ok c) = (n ≡ 0) × Ready S t p c.spot.at c.spot.gone es c.size lent
+Changes S t p es lent n (Err e) = refusal_number e ≡ n

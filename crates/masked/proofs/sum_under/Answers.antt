@@ -1,29 +1,24 @@
-use mathlib.Core.Path.{sym, ◌∙◌}
+use mathlib.Core.Path.{refl, sym}
 use native.Mathlib.Omega.{arith}
-use Rattle.checksum.specs.Promises.{generator}
-use Rattle.checksum.specs.Steps.Register.{Generator}
+use Rattle.std.proofs.lemmas.Result.{err_from_is_err_and}
+use Rattle.bits.proofs.Answers.{refusal-numbered}
 use Rattle.checksum.proofs.Answers.{bits-done}
 use Rattle.masked.proofs.Answers.{sum-refused, sum_done}
 use Rattle.masked.proofs.sum_under.Goals as goal
 
-pub returns-then-sum-ne-DONE : goal.returns-then-sum-ne-DONE
-returns-then-sum-ne-DONE c =
+pub returns-in_err-sum : goal.returns-in_err-sum
+returns-in_err-sum c =
     let a = c.args in
-    sum-refused a.width a.mask a.bits.now c.of_bits-sum.result c.of_bits-sum.ensures c.if-sum-ne-DONE.true
+    let p = err_from_is_err_and c.from_residual.result c.from_residual.ensures.1 in
+    rw (p.1, p.2) (sum-refused a.width a.mask a.bits.now _ c.in_err-sum.ensures (refusal-numbered _))
 
 pub overflow_cast-width : goal.overflow_cast-width
-overflow_cast-width c =
-    let fits : Generator c.args.width (generator c.args.width) = let a = c.args in
-    (bits-done a.width a.bits.now (sym c.of_bits-sum.ensures.number ∙ c.if-sum-ne-DONE.false)).0 in
-    omega (arith, fits.most)
+overflow_cast-width c = omega (arith, (bits-done c.args.width c.args.bits.now (sym c.in_ok-sum.ensures.number)).0.most)
 
-pub under-value-requires : goal.under-value-requires
-under-value-requires c =
-    let fits : Generator c.args.width (generator c.args.width) = let a = c.args in
-    (bits-done a.width a.bits.now (sym c.of_bits-sum.ensures.number ∙ c.if-sum-ne-DONE.false)).0 in
-    omega (arith, fits.most)
+pub under-requires : goal.under-requires
+under-requires c = omega (arith, (bits-done c.args.width c.args.bits.now (sym c.in_ok-sum.ensures.number)).0.most)
 
 pub returns : goal.returns
 returns c =
     let a = c.args in
-    sum_done a.width a.mask a.bits.now c.of_bits-sum.result c.of_bits-sum.ensures c.if-sum-ne-DONE.false c.under-value.result c.under-value.ensures
+    sum_done a.width a.mask a.bits.now _ c.in_ok-sum.ensures refl c.under.result c.under.ensures

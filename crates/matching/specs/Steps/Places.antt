@@ -1,5 +1,5 @@
 -- What the steps of rate matching write, place by place.
-use Rattle.std.specs.Prelude.{◌≡◌, List, ℕ, ◌+◌, ◌-◌, ◌%◌, ◌≤◌, ◌<◌, length, get_or, take, drop}
+use Rattle.std.specs.Prelude.{◌≡◌, List, ℕ, ◌+◌, ◌-◌, ◌%◌, ◌≤◌, ◌<◌, length, get_or}
 
 -- b is a with its first n octets repeated up to e
 pub record Repeated (n e : ℕ) (a b : List ℕ) : Type 0 where
@@ -14,10 +14,6 @@ pub record Filled (coded : List ℕ) (own places : ℕ) : Type 0 where
   pub before : (p : ℕ) → p < own → get_or coded p 0 ≡ 2 → ⊥
   pub marked : (p : ℕ) → own ≤ p → p < places → get_or coded p 0 ≡ 2
   pub after : (p : ℕ) → places ≤ p → p < length coded → get_or coded p 0 ≡ 2 → ⊥
-
--- the n octets of s from `from` on
-unfoldable pub stretch : List ℕ → ℕ → ℕ → List ℕ
-stretch s from n = take n (drop from s)
 
 -- the smaller of two numbers, in terms that need no case
 abbrev pub least : ℕ → ℕ → ℕ

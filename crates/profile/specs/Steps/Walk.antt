@@ -1,8 +1,8 @@
 -- The staircase as the code walks it: column kb by its filled rows, and then row by row the columns after it. T is a table of `columns` columns.
 use Rattle.std.specs.Prelude.{◌≡◌, Bool, true, ◌&&◌, List, ℕ, zero, suc, ◌+◌, ◌-◌, ◌≤◌, ◌<◌, eqb, get_or}
 use Rattle.bits.specs.Ranges.{all_below}
-use Rattle.profile.specs.Record.{entry, empty}
-use Rattle.profile.specs.Staircase.{next_due}
+use Rattle.profile.specs.Record.{kb, m, x, columns, table, entry, empty}
+use Rattle.profile.specs.Staircase.{next_due, staircase, extended}
 
 -- what a column holds in each of its rows
 abbrev pub column : List ℕ → ℕ → ℕ → ℕ → ℕ
@@ -34,3 +34,7 @@ before_right T first (suc n) = all_below n (empty_from T first) && eqb (get_or T
 -- those behind it: 0 in the place `own`, and so many empty ones
 unfoldable pub behind_right : List ℕ → ℕ → ℕ → Bool
 behind_right T own later = eqb (get_or T own 0) 0 && all_below later (empty_from T (own + 1))
+
+-- table i of a record is a staircase with its extension
+abbrev pub stairs_at : List ℕ → ℕ → Bool
+stairs_at R i = staircase (table R i) (kb R) (m R) (columns R) && extended (table R i) (kb R) (m R) (x R) (columns R)

@@ -1,5 +1,5 @@
 -- `sample::main` is safe and ends: what is packed are bits, since what was sent are and the output held zeros before.
-use Rattle.std.proofs.Common.{◌≡◌, sym, ◌∙◌, subst, List, ◌++◌, ℕ, ◌<◌, length, get_or, drop, rules}
+use Rattle.std.proofs.Common.{◌≡◌, refl, sym, ◌∙◌, subst, List, ◌++◌, ℕ, ◌<◌, length, get_or, drop, rules}
 use Rattle.bits.specs.Bits.{AreBits}
 use Rattle.bits.specs.declared.count.Terms.{Terms}
 use Rattle.bits.specs.declared.number.Written.{Written}
@@ -21,5 +21,5 @@ left-bits {R} {block} {terms} {g} {out} s done h k =
     subst (λ (l : List ℕ). get_or l k 0 < 2) (sym (s.output ∙ left))
     (bits-append sent (drop g out) (sent-bits R (block_bits (length block)) (transport block) terms g (transport-bits block)) (bits-drop g out h) k)
 
-pub pack-requires : goal.pack-requires
-pack-requires c = (search rules, search rules, left-bits c.send-sent.ensures c.if-sent-ne-DONE.false (bits-zeros 128))
+pub print_packed-requires : goal.print_packed-requires
+print_packed-requires c = (search rules, left-bits c.in-Ok.ensures refl (bits-zeros 128))

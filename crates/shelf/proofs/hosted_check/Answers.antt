@@ -1,16 +1,15 @@
-use mathlib.Core.Path.{sym, ◌∙◌}
+use mathlib.Core.Path.{sym}
+use Rattle.std.proofs.lemmas.Result.{err_from_is_err_and}
+use Rattle.bits.proofs.Answers.{refusal-numbered}
 use Rattle.shelf.proofs.Hosted.{check_refused, check_found}
 use Rattle.shelf.proofs.hosted_check.Goals as goal
 
-pub returns-then-number-ne-DONE : goal.returns-then-number-ne-DONE
-returns-then-number-ne-DONE c =
-    let l = c.look-found in
-    check_refused _ _ _ _ _ _ l.result.number l.ensures.number c.if-number-ne-DONE.true
-
-pub stretch-requires : goal.stretch-requires
-stretch-requires c = c.look-found.ensures.inside
+pub returns-in_err-printed : goal.returns-in_err-printed
+returns-in_err-printed c =
+    let p = err_from_is_err_and c.from_residual.result c.from_residual.ensures.1 in
+    rw (p.1, p.2) (check_refused _ _ _ _ _ _ _ c.in_err-printed.ensures.number (refusal-numbered _))
 
 pub returns : goal.returns
 returns c =
-    let l = c.look-found.ensures in
-    check_found _ _ _ _ _ _ _ (sym l.number ∙ c.if-number-ne-DONE.false) _ (c.stretch.ensures.0 ∙ l.octets) c.check_word.ensures
+    let l = c.in_ok-printed.ensures in
+    check_found _ _ _ _ _ _ _ (sym l.number) _ l.stretch.octets c.check_word.ensures

@@ -1,16 +1,15 @@
-use mathlib.Core.Path.{sym, ◌∙◌}
+use mathlib.Core.Path.{sym}
+use Rattle.std.proofs.lemmas.Result.{err_from_is_err_and}
+use Rattle.bits.proofs.Answers.{refusal-numbered}
 use Rattle.shelf.proofs.Hosted.{hosted-refused, hosted-found}
 use Rattle.shelf.proofs.hosted_send.Goals as goal
 
-pub returns-then-number-ne-DONE : goal.returns-then-number-ne-DONE
-returns-then-number-ne-DONE c =
-    let l = c.look-found in
-    hosted-refused _ _ _ _ _ _ l.result.number l.ensures.number c.if-number-ne-DONE.true
-
-pub stretch-requires : goal.stretch-requires
-stretch-requires c = c.look-found.ensures.inside
+pub returns-in_err-given : goal.returns-in_err-given
+returns-in_err-given c =
+    let p = err_from_is_err_and c.from_residual.result c.from_residual.ensures.1 in
+    rw (p.1, p.2) (hosted-refused _ _ _ _ _ _ _ c.in_err-given.ensures.number (refusal-numbered _))
 
 pub returns : goal.returns
 returns c =
-    let l = c.look-found.ensures in
-    hosted-found _ _ _ _ _ _ _ _ (sym l.number ∙ c.if-number-ne-DONE.false) _ (c.stretch.ensures.0 ∙ l.octets) c.send.ensures
+    let l = c.in_ok-given.ensures in
+    hosted-found _ _ _ _ _ _ _ _ (sym l.number) _ l.stretch.octets c.send.ensures

@@ -1,6 +1,7 @@
 -- A shelf's tests in the order of the code: the sizes first, so that what is read is there, then the tenants, then each entry and the end. That they
 -- are well_formed is proved.
 use Rattle.std.specs.Prelude.{Bool, cond, ◌&&◌, ◌||◌, List, ℕ, zero, suc, ◌+◌, ◌-◌, ◌*◌, ◌<◌, eqb, leb, length}
+use Rattle.bits.specs.Bits.{number_at}
 use Rattle.bits.specs.Ranges.{all_below}
 use Rattle.shelf.specs.Shelf.{count, tenant, profile, rises, chained, ends_right, tenant_right}
 
@@ -15,6 +16,10 @@ tenants_right private S = eqb (count S) 0 || tenant_right private (tenant S (con
 -- a pair of tenant and profile number as one number, and the least that is above the pair before entry k
 unfoldable pub pair : List ℕ → ℕ → ℕ
 pair S k = tenant S k * 65536 + profile S k
+
+-- the same of an entry's eight octets
+unfoldable pub pair_in : List ℕ → ℕ
+pair_in H = number_at H 0 * 65536 + number_at H 2
 
 unfoldable pub least_pair : List ℕ → ℕ → ℕ
 least_pair S zero = 0

@@ -42,10 +42,7 @@ fn entry_right(shelf: &[u8], k: usize, least: usize, due: usize) -> bool
     requires { 10 + 8 * k ≤ length shelf.now }
     ensures { result ≡ (leb least (pair shelf.now k) && eqb (offset shelf.now k) due) }
 {
-    if entry::pair(shelf, k) < least {
-        return false;
-    }
-    entry::offset(shelf, k) == due
+    least <= entry::pair(shelf, k) && entry::offset(shelf, k) == due
 }
 
 // The least pair and the offset that are due are carried along, so that each entry is read once.
@@ -56,14 +53,12 @@ fn entries_right(shelf: &[u8]) -> bool
     let count = entry::count(shelf);
     let mut least = 0;
     let mut due = 2 + 8 * count;
-    let mut k = 0;
-    while k < count {
+    for k in 0..count {
         if !entry_right(shelf, k, least, due) {
             return false;
         }
         least = entry::pair(shelf, k) + 1;
         due += entry::size(shelf, k);
-        k += 1;
     }
     shelf.len() == due
 }
@@ -71,11 +66,5 @@ fn entries_right(shelf: &[u8]) -> bool
 pub fn well_formed(private: bool, shelf: &[u8]) -> bool
     ensures { result ≡ well_formed private shelf.now }
 {
-    if !sizes_right(shelf) {
-        return false;
-    }
-    if !tenants_right(private, shelf) {
-        return false;
-    }
-    entries_right(shelf)
+    sizes_right(shelf) && tenants_right(private, shelf) && entries_right(shelf)
 }

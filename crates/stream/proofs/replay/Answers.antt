@@ -28,5 +28,5 @@ slice_bounds-read_all-end-4 g c = zeros 140000
 pub slice_bounds-read_all-end-6 : goal.slice_bounds-read_all-end-6
 slice_bounds-read_all-end-6 g c = zeros 400000
 
-pub read_all-requires : goal.read_all-requires
-read_all-requires g c = (search rules, roomy 140000 400000 (omega arith))
+pub read_all-read-requires : goal.read_all-read-requires
+read_all-read-requires g c = (search rules, roomy 140000 400000 (omega arith))

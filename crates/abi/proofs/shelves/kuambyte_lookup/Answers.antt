@@ -6,7 +6,7 @@ use Rattle.abi.proofs.shelves.kuambyte_lookup.Goals as goal
 
 pub returns-then-too_large : goal.returns-then-too_large
 unfolding refused_with
-returns-then-too_large c = held-large (sym c.too_large.ensures ∙ c.if-too_large.true) refl
+returns-then-too_large c = rw c.refused_with.ensures (held-large (sym c.too_large.ensures ∙ c.if-too_large.true) refl)
 
 pub overflow_cast-tenant : goal.overflow_cast-tenant
 overflow_cast-tenant c =

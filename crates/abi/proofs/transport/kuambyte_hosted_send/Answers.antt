@@ -4,7 +4,7 @@ use Rattle.abi.proofs.Held.{small-numbers, held-large, held_small}
 use Rattle.abi.proofs.transport.kuambyte_hosted_send.Goals as goal
 
 pub returns-then-too_large : goal.returns-then-too_large
-returns-then-too_large c = held-large (sym c.too_large.ensures ∙ c.if-too_large.true) (record { answer = refl; output = refl })
+returns-then-too_large c = rw c.from.ensures (held-large (sym c.too_large.ensures ∙ c.if-too_large.true) (record { answer = refl; output = refl }))
 
 pub overflow_cast-tenant : goal.overflow_cast-tenant
 overflow_cast-tenant c =
@@ -17,5 +17,4 @@ overflow_cast-profile c =
     omega arith
 
 pub returns : goal.returns
-returns c =
-    held_small (sym c.too_large.ensures ∙ c.if-too_large.false) c.hosted_send.ensures
+returns c = rw c.from-2.ensures (held_small (sym c.too_large.ensures ∙ c.if-too_large.false) c.hosted_send.ensures)

@@ -1,4 +1,3 @@
-use mathlib.Core.Path.{◌∙◌}
 use native.Mathlib.Omega.{arith}
 use Rattle.cutting.proofs.PlanFields.{of_fields, places-product, plan-sum}
 use Rattle.parity.proofs.Coded.{solution_front}
@@ -11,12 +10,6 @@ lay_block-requires c =
     let R = a.profile.now in
     let k = of_fields R c.requires.edition a.plan c.requires.ready.of in
     (c.requires.inside, c.requires.carried_fits, omega (arith, word_room R a.plan k, c.requires.fits), plan-sum R a.plan k, c.requires.ready.single)
-
-pub solve-requires : goal.solve-requires
-solve-requires c =
-    let a = c.args in
-    let R = a.profile.now in
-    (record { edition = c.requires.edition; of = c.requires.ready.of }, c.lay_block.ensures.len ∙ c.requires.fits)
 
 pub returns : goal.returns
 returns c =

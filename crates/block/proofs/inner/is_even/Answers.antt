@@ -29,6 +29,3 @@ checks_by-requires c =
     let R = a.profile.now in
     let k = some-fields R a.plan c.requires.0 in
     rw (c.table-table.ensures, c.columns-columns.ensures.0, c.rows-rows.ensures.0) (shape_here R a.plan k, c.requires.1)
-
-pub returns : goal.returns
-returns c = rw (c.table-table.ensures, c.columns-columns.ensures.0, c.rows-rows.ensures.0) at c.checks_by.ensures

@@ -3,18 +3,11 @@ use Prim.Native.Nat.{◌+◌, ◌≤◌}
 use native.Mathlib.Omega.{arith}
 use lib.ListN.{length}
 use lib.Seq.{length-take-le}
-use borrow.Author.Tests.{not-true, not-false}
 use Rattle.cutting.proofs.PlanFields.{some-fields, plan-sum}
 use Rattle.cutting.proofs.Summed.{no_sum}
 use Rattle.block.proofs.PlanFields.{word_room}
-use Rattle.block.proofs.ReceivedBlock.{unsent-received, carried-bits, sent-received}
+use Rattle.block.proofs.ReceivedBlock.{carried-bits}
 use Rattle.block.proofs.inner.is_received.Goals as goal
-
-pub returns-then-not-is_sent_as : goal.returns-then-not-is_sent_as
-returns-then-not-is_sent_as c =
-    let sent = c.is_sent_as in
-    let a = c.args in
-    unsent-received a.profile.now a.plan a.s.now a.own a.from sent.result sent.new.word sent.ensures (not-true _ c.if-not-is_sent_as.true-raw)
 
 pub slice_bounds-sum_holds-end : goal.slice_bounds-sum_holds-end
 slice_bounds-sum_holds-end c =
@@ -38,11 +31,5 @@ sum_holds-requires c =
     let sent = c.is_sent_as in
     let a = c.args in
     let k = some-fields a.profile.now a.plan c.requires.some in
-    let yes = not-false _ c.if-not-is_sent_as.false-raw in
+    let yes = c.if-not-is_sent_as.false in
     (omega (arith, length-take-le (a.own + a.plan.sums) sent.new.word room), search (plan-sum a.profile.now a.plan k, no_sum), carried-bits a.profile.now a.plan a.s.now a.own a.from sent.result sent.new.word sent.ensures yes c.requires.single)
-
-pub returns : goal.returns
-returns c =
-    let sent = c.is_sent_as in
-    let a = c.args in
-    sent-received a.profile.now a.plan a.s.now a.own a.from sent.result sent.new.word sent.ensures (not-false _ c.if-not-is_sent_as.false-raw) c.sum_holds.result c.sum_holds.ensures

@@ -43,6 +43,3 @@ code-requires c =
     let R = a.profile.now in
     let k = some-fields R a.plan c.requires.0 in
     rw (c.table-table.ensures, c.columns-columns.ensures.0, c.rows-rows.ensures.0, c.m-m.ensures.0, c.kb-kb.ensures.0) (codable_here R a.plan k a.word.now c.requires.1)
-
-pub returns : goal.returns
-returns c = rw (c.table-table.ensures, c.columns-columns.ensures.0, c.rows-rows.ensures.0, c.m-m.ensures.0, c.kb-kb.ensures.0) at c.code.ensures

@@ -4,9 +4,6 @@ use borrow.Author.Rules.{rules}
 use Rattle.checking.proofs.Elements.{mark_is, bit_is}
 use Rattle.checking.proofs.plain.bit.Goals as goal
 
-pub overflow_cast-result : goal.overflow_cast-result
-overflow_cast-result c = omega (arith, c.shared_slice_known-1.given c.args.place)
-
 pub returns-in-2 : goal.returns-in-2
 returns-in-2 c = (mark_is _ _ c.in-2.is, search rules)
 

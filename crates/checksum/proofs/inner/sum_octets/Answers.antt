@@ -1,26 +1,41 @@
--- each of the three widths has its table.
+-- each of the three widths has its table, and that passes the test.
 use mathlib.Core.Path.{refl}
-use Rattle.bits.specs.Bits.{unpacked}
-use Rattle.checksum.specs.Crc.{gen24_a, gen16, gen8}
+use native.Mathlib.Omega.{arith}
+use Rattle.bits.specs.Bits.{unpacked, digits}
+use Rattle.checksum.specs.Crc.{gen24_a, gen16, gen8, reduce}
 use Rattle.checksum.specs.Promises.{generator}
+use Rattle.checksum.specs.Steps.Register.{stepped, fed}
 use Rattle.checksum.proofs.Answers.{last_width, summed_with}
+use Rattle.checksum.proofs.Tabled.{left_by_test}
 use Rattle.checksum.proofs.inner.sum_octets.Goals as goal
 
-pub returns-then-w-eq24 : goal.returns-then-w-eq24
-unfolding generator
-returns-then-w-eq24 c =
-    let a = c.args in
-    summed_with a.w 24 gen24_a c.sum24a.result (unpacked a.octets.now) c.if-w-eq24.true refl c.sum24a.ensures
+pub sum_by-requires : goal.sum_by-requires
+unfolding fed digits stepped reduce
+sum_by-requires c = left_by_test 24 _ tt
 
-pub returns-then-w-eq16 : goal.returns-then-w-eq16
-unfolding generator
-returns-then-w-eq16 c =
-    let a = c.args in
-    summed_with a.w 16 gen16 c.sum16.result (unpacked a.octets.now) c.if-w-eq16.true refl c.sum16.ensures
+pub sum_by-requires-in-16 : goal.sum_by-requires-in-16
+unfolding fed digits stepped reduce
+sum_by-requires-in-16 c = left_by_test 16 _ tt
 
-pub returns : goal.returns
+pub sum_by-requires-in_default : goal.sum_by-requires-in_default
+unfolding fed digits stepped reduce
+sum_by-requires-in_default c = left_by_test 8 _ tt
+
+pub returns-in-24 : goal.returns-in-24
 unfolding generator
-returns c =
-    let s = c.before.before.before.before in
-    let is = last_width s.args.w s.requires c.if-w-eq24.false c.if-w-eq16.false in
-    summed_with s.args.w 8 gen8 c.sum8.result (unpacked s.args.octets.now) is refl c.sum8.ensures
+returns-in-24 c =
+    let a = c.args in
+    summed_with a.w 24 gen24_a c.sum_by.result (unpacked a.octets.now) c.in-24.is refl c.sum_by.ensures
+
+pub returns-in-16 : goal.returns-in-16
+unfolding generator
+returns-in-16 c =
+    let a = c.args in
+    summed_with a.w 16 gen16 c.sum_by-in-16.result (unpacked a.octets.now) c.in-16.is refl c.sum_by-in-16.ensures
+
+pub returns-in_default : goal.returns-in_default
+unfolding generator
+returns-in_default c =
+    let a = c.args in
+    let is = last_width a.w c.requires (λ e. omega (arith, e)) (λ e. omega (arith, e)) in
+    summed_with a.w 8 gen8 c.sum_by-in_default.result (unpacked a.octets.now) is refl c.sum_by-in_default.ensures

@@ -19,13 +19,6 @@ all_most : (terms : Terms) (g : CodedBits) (all : SymbolPlaces) → all ≡ symb
 unfolding symbol_places_of
 all_most terms g all e most = rw (ap (λ (x : SymbolPlaces). x.0) e) (le_trans (div-le_self g.0 _) most)
 
-pub overflow_add-each : goal.overflow_add-each
-overflow_add-each c =
-    let one_more : c.symbol_places-all.result.0 / c.args.c + 1 ≤ 65536 = let a = c.args in
-    let first : a.r < c.symbol_places-all.result.0 % a.c = omega (arith, c.if-r-all.true) in
-    le_trans (places_more c.symbol_places-all.result.0 a.c a.r c.requires.blocks first) (all_most a.terms a.g _ c.symbol_places-all.ensures c.requires.most) in
-    omega (arith, one_more)
-
 pub coded_bits-requires : goal.coded_bits-requires
 coded_bits-requires c =
     let one_more : c.symbol_places-all.result.0 / c.args.c + 1 ≤ 65536 = let a = c.args in

@@ -3,8 +3,6 @@ use mathlib.Core.Bool.{true≢false}
 use Prim.Native.Nat.{◌+◌, ◌-◌, ◌≤◌, ◌<◌}
 use native.Mathlib.Omega.{arith}
 use lib.ListN.{length, take, drop}
-use borrow.Author.Tests.{not-true, not-false}
-use borrow.Author.Rules.{rules}
 use Rattle.bits.specs.declared.count.CodedBits.{CodedBits}
 use Rattle.bits.proofs.Lists.{bits-take, bits-drop, length_part}
 use Rattle.matching.proofs.Start.{versioned}
@@ -15,7 +13,7 @@ use Rattle.coding.proofs.receiving.rebuild.Goals as goal
 
 pub loop-r-init : goal.loop-r-init
 loop-r-init c = let a = c.args in
-    (search rules, refl, walk_none a.profile.now a.terms a.bits.now a.plan.bits a.room.now)
+    (refl, walk_none a.profile.now a.terms a.bits.now a.plan.bits a.room.now)
 
 pub own_bits-own-requires : goal.own_bits-own-requires
 own_bits-own-requires c = let l = c in
@@ -30,10 +28,6 @@ own_bits-own-requires c = let l = c in
     let order : i.r < a.plan.blocks = omega (arith, l) in
     (k.cut.bits_high, omega (arith, order), omega (arith, k.blocks_is, k.cut.most))
 
-pub share_of-e-requires : goal.share_of-e-requires
-share_of-e-requires c = let a = c.args in
-    given_here a.profile.now a.terms a.bits.now a.plan c.requires.0
-
 pub overflow_add-at : goal.overflow_add-at
 overflow_add-at c = let a = c.args in
     let R = a.profile.now in
@@ -46,7 +40,7 @@ overflow_add-at c = let a = c.args in
     let own = c.own_bits-own in
     let e = c.share_of-e in
     let mine = share-is R a.plan a.terms k (length s) i.r e.result.0 (ap (λ (x : CodedBits). x.0) e.ensures) in
-    let fits = share-fits R a.plan a.terms k (length s) given i.r i.at e.result.0 order i.invariant.2.stands mine in
+    let fits = share-fits R a.plan a.terms k (length s) given i.r i.at e.result.0 order i.invariant.1.stands mine in
     omega (arith, fits, h.receivable.allocated.most)
 
 pub slice_bounds-is_received-end : goal.slice_bounds-is_received-end
@@ -61,7 +55,7 @@ slice_bounds-is_received-end c = let a = c.args in
     let own = c.own_bits-own in
     let e = c.share_of-e in
     let mine = share-is R a.plan a.terms k (length s) i.r e.result.0 (ap (λ (x : CodedBits). x.0) e.ensures) in
-    let fits = share-fits R a.plan a.terms k (length s) given i.r i.at e.result.0 order i.invariant.2.stands mine in
+    let fits = share-fits R a.plan a.terms k (length s) given i.r i.at e.result.0 order i.invariant.1.stands mine in
     fits
 
 pub is_received-requires : goal.is_received-requires
@@ -76,15 +70,15 @@ is_received-requires c = let a = c.args in
     let own = c.own_bits-own in
     let e = c.share_of-e in
     let mine = share-is R a.plan a.terms k (length s) i.r e.result.0 (ap (λ (x : CodedBits). x.0) e.ensures) in
-    let fits = share-fits R a.plan a.terms k (length s) given i.r i.at e.result.0 order i.invariant.2.stands mine in
+    let fits = share-fits R a.plan a.terms k (length s) given i.r i.at e.result.0 order i.invariant.1.stands mine in
     let whole : i.at + e.result.0 - i.at ≡ e.result.0 = omega arith in
     let size : length (take (i.at + e.result.0 - i.at) (drop i.at s)) ≡ e.result.0 = rw whole (length_part e.result.0 i.at s fits) in
     record {
       some = record { edition = a.terms.edition; of = record { octets = h.octets; taken = h.receivable.taken; plan = h.plan } };
       carried_fits = carried-room R a.plan k i.r own.result own.ensures;
-      starts = omega (arith, start_in R a.plan a.terms k (versioned _ _ h.receivable.version) a.from c.requires.1, i.invariant.1, c.requires.2);
-      fits = i.invariant.1 ∙ c.requires.2;
-      room = omega (arith, size, i.invariant.1, c.requires.2, room_here R a.terms s a.plan h i.r own.result e.result.0 order own.ensures mine);
+      starts = omega (arith, start_in R a.plan a.terms k (versioned _ _ h.receivable.version) a.from c.requires.1, i.invariant.0, c.requires.2);
+      fits = i.invariant.0 ∙ c.requires.2;
+      room = omega (arith, size, i.invariant.0, c.requires.2, room_here R a.terms s a.plan h i.r own.result e.result.0 order own.ensures mine);
       single = bits-take (i.at + e.result.0 - i.at) (drop i.at s) (bits-drop i.at s h.receivable.single);
     }
 
@@ -100,15 +94,15 @@ returns-then-not-is_received c = let a = c.args in
     let own = c.own_bits-own in
     let e = c.share_of-e in
     let mine = share-is R a.plan a.terms k (length s) i.r e.result.0 (ap (λ (x : CodedBits). x.0) e.ensures) in
-    let fits = share-fits R a.plan a.terms k (length s) given i.r i.at e.result.0 order i.invariant.2.stands mine in
+    let fits = share-fits R a.plan a.terms k (length s) given i.r i.at e.result.0 order i.invariant.1.stands mine in
     let whole : i.at + e.result.0 - i.at ≡ e.result.0 = omega arith in
     let is = c.is_received in
     let told = rw whole at is.ensures.is in
     record {
       sent = λ q. absurd (true≢false (sym q));
       other = λ q all.
-          block-other R a.terms s a.plan h i.r i.at e.result.0 own.result a.from order i.invariant.2.stands mine own.ensures c.requires.1
-          is.result told (not-true _ c.if-not-is_received.true-raw) all;
+          block-other R a.terms s a.plan h i.r i.at e.result.0 own.result a.from order i.invariant.1.stands mine own.ensures c.requires.1
+          is.result told (c.if-not-is_received.true) all;
     }
 
 pub lay-requires : goal.lay-requires
@@ -123,9 +117,9 @@ lay-requires c = let a = c.args in
     let own = c.own_bits-own in
     let e = c.share_of-e in
     let mine = share-is R a.plan a.terms k (length s) i.r e.result.0 (ap (λ (x : CodedBits). x.0) e.ensures) in
-    let fits = share-fits R a.plan a.terms k (length s) given i.r i.at e.result.0 order i.invariant.2.stands mine in (
-      omega (arith, carried-room R a.plan k i.r own.result own.ensures, word_room R a.plan k, c.is_received.auto.word, i.invariant.1, c.requires.2),
-      omega (arith, own-fits R a.plan k i.r i.start own.result order i.invariant.2.starts own.ensures, i.invariant.2.same, c.requires.3),
+    let fits = share-fits R a.plan a.terms k (length s) given i.r i.at e.result.0 order i.invariant.1.stands mine in (
+      omega (arith, carried-room R a.plan k i.r own.result own.ensures, word_room R a.plan k, c.is_received.auto.word, i.invariant.0, c.requires.2),
+      omega (arith, own-fits R a.plan k i.r i.start own.result order i.invariant.1.starts own.ensures, i.invariant.1.same, c.requires.3),
     )
 
 pub overflow_add-start : goal.overflow_add-start
@@ -140,26 +134,8 @@ overflow_add-start c = let a = c.args in
     let own = c.own_bits-own in
     let e = c.share_of-e in
     let mine = share-is R a.plan a.terms k (length s) i.r e.result.0 (ap (λ (x : CodedBits). x.0) e.ensures) in
-    let fits = share-fits R a.plan a.terms k (length s) given i.r i.at e.result.0 order i.invariant.2.stands mine in
-    omega (arith, own-fits R a.plan k i.r i.start own.result order i.invariant.2.starts own.ensures, k.cut.bits_high)
-
-pub overflow_add-at-in-loop-r : goal.overflow_add-at-in-loop-r
-overflow_add-at-in-loop-r c = let a = c.args in
-    let R = a.profile.now in
-    let s = a.bits.now in
-    let h = c.requires.0 in
-    let k = fields R a.terms s a.plan h in
-    let given = given_here R a.terms s a.plan h in
-    let i = c.loop-r in
-    let order : i.r < a.plan.blocks = omega (arith, c) in
-    let own = c.own_bits-own in
-    let e = c.share_of-e in
-    let mine = share-is R a.plan a.terms k (length s) i.r e.result.0 (ap (λ (x : CodedBits). x.0) e.ensures) in
-    let fits = share-fits R a.plan a.terms k (length s) given i.r i.at e.result.0 order i.invariant.2.stands mine in
-    omega (arith, fits, h.receivable.allocated.most)
-
-pub overflow_add-r : goal.overflow_add-r
-overflow_add-r c = omega (arith, c.before.before.before.before.before.before.before.before.before.before.before.before.before.before.before)
+    let fits = share-fits R a.plan a.terms k (length s) given i.r i.at e.result.0 order i.invariant.1.stands mine in
+    omega (arith, own-fits R a.plan k i.r i.start own.result order i.invariant.1.starts own.ensures, k.cut.bits_high)
 
 pub loop-r-preserved : goal.loop-r-preserved
 loop-r-preserved c = let a = c.args in
@@ -173,24 +149,23 @@ loop-r-preserved c = let a = c.args in
     let own = c.own_bits-own in
     let e = c.share_of-e in
     let mine = share-is R a.plan a.terms k (length s) i.r e.result.0 (ap (λ (x : CodedBits). x.0) e.ensures) in
-    let fits = share-fits R a.plan a.terms k (length s) given i.r i.at e.result.0 order i.invariant.2.stands mine in
+    let fits = share-fits R a.plan a.terms k (length s) given i.r i.at e.result.0 order i.invariant.1.stands mine in
     let whole : i.at + e.result.0 - i.at ≡ e.result.0 = omega arith in
     let is = c.is_received in
     let told = rw whole at is.ensures.is in
-    let yes = not-false _ c.if-not-is_received.false-raw in
+    let yes = c.if-not-is_received.false in
     let word = is.new.word in
-    let has : own.result ≤ length word = omega (arith, carried-room R a.plan k i.r own.result own.ensures, word_room R a.plan k, is.auto.word, i.invariant.1, c.requires.2) in (
-      omega (arith, order),
-      is.auto.word ∙ i.invariant.1,
-      walk_more R a.terms s a.plan h i.r i.at e.result.0 own.result a.from order i.invariant.2.stands mine own.ensures c.requires.1
-          is.result told a.room.now word i.room _ i.start yes c.requires.3 (rw whole at (is.ensures.front yes)) has i.invariant.2 c.lay.ensures,
+    let has : own.result ≤ length word = omega (arith, carried-room R a.plan k i.r own.result own.ensures, word_room R a.plan k, is.auto.word, i.invariant.0, c.requires.2) in (
+      is.auto.word ∙ i.invariant.0,
+      walk_more R a.terms s a.plan h i.r i.at e.result.0 own.result a.from order i.invariant.1.stands mine own.ensures c.requires.1
+          is.result told a.room.now word i.room _ i.start yes c.requires.3 (rw whole at (is.ensures.front yes)) has i.invariant.1 c.lay.ensures,
     )
 
 pub returns : goal.returns
 returns c = let a = c.args in
     let i = c.loop-r in
-    let last : i.r ≡ a.plan.blocks = omega (arith, i.invariant.0, c) in
+    let last : i.r ≡ a.plan.blocks = omega (arith, c) in
     record {
-      sent = λ q. walk-done a.profile.now a.terms a.bits.now a.plan c.requires.0 a.room.now i.room i.r i.start i.at last i.invariant.2;
+      sent = λ q. walk-done a.profile.now a.terms a.bits.now a.plan c.requires.0 a.room.now i.room i.r i.start i.at last i.invariant.1;
       other = λ q. absurd (true≢false q);
     }

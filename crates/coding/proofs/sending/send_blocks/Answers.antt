@@ -1,9 +1,8 @@
 use mathlib.Core.Path.{◌≡◌, refl, sym, ap, ap₂, ◌∙◌}
 use mathlib.Core.List.{List, ◌++◌}
-use Prim.Native.Nat.{ℕ, ◌-◌, ◌≤◌, ◌<◌}
+use Prim.Native.Nat.{ℕ, ◌-◌, ◌<◌}
 use native.Mathlib.Omega.{arith}
 use lib.ListN.{length, take, drop, length-drop}
-use borrow.Author.Rules.{rules}
 use Rattle.bits.specs.Ranges.{sum_below}
 use Rattle.bits.specs.declared.count.CodedBits.{CodedBits}
 use Rattle.cutting.specs.Plan.{blocks}
@@ -20,7 +19,7 @@ pub loop-r-init : goal.loop-r-init
 unfolding sum_below
 loop-r-init c =
     let a = c.args in
-    (search rules, sym (start_none a.profile.now a.terms.edition a.plan.bits), refl, refl, joined-none (block_sent a.profile.now a.plan.bits a.bits.now a.terms a.g.0) a.out.now)
+    (sym (start_none a.profile.now a.terms.edition a.plan.bits), refl, refl, joined-none (block_sent a.profile.now a.plan.bits a.bits.now a.terms a.g.0) a.out.now)
 
 pub own_bits-own-requires : goal.own_bits-own-requires
 own_bits-own-requires c =
@@ -33,25 +32,6 @@ own_bits-own-requires c =
     let i = l.before.loop-r in
     (k.cut.bits_high, omega (arith, k.blocks_is, k.cut.some), omega (arith, k.blocks_is, k.cut.most))
 
-pub share_of-e-requires : goal.share_of-e-requires
-share_of-e-requires c = c.requires.0.allocated
-
-pub slice_bounds-send_block-count : goal.slice_bounds-send_block-count
-slice_bounds-send_block-count c =
-    let within : c.loop-r.at ≤ length c.loop-r.out = let a = c.args in
-    let k = of_fields a.profile.now a.terms.edition a.plan c.requires.0.ready.of in
-    let i = c.loop-r in
-    omega (arith, share-fits a.profile.now a.plan a.terms k a.g.0 c.requires.0.allocated i.r i.at _ (omega (arith, c)) i.invariant.3 refl, i.invariant.4.same, c.requires.0.room) in
-    within
-
-pub slice_bounds-send_block-start : goal.slice_bounds-send_block-start
-slice_bounds-send_block-start c =
-    let within : c.loop-r.at ≤ length c.loop-r.out = let a = c.args in
-    let k = of_fields a.profile.now a.terms.edition a.plan c.requires.0.ready.of in
-    let i = c.loop-r in
-    omega (arith, share-fits a.profile.now a.plan a.terms k a.g.0 c.requires.0.allocated i.r i.at _ (omega (arith, c)) i.invariant.3 refl, i.invariant.4.same, c.requires.0.room) in
-    within
-
 pub send_block-requires : goal.send_block-requires
 send_block-requires c =
     let a = c.args in
@@ -63,16 +43,16 @@ send_block-requires c =
     let e = c.share_of-e in
     let order : i.r < a.plan.blocks = omega (arith, c) in
     let mine = share-is R a.plan a.terms k a.g.0 i.r e.result.0 (ap (λ (x : CodedBits). x.0) e.ensures) in
-    let room = share-fits R a.plan a.terms k a.g.0 c.requires.0.allocated i.r i.at e.result.0 order i.invariant.3 mine in (
+    let room = share-fits R a.plan a.terms k a.g.0 c.requires.0.allocated i.r i.at e.result.0 order i.invariant.2 mine in (
       record {
         edition = a.terms.edition;
         ready = c.requires.0.ready;
         carried_fits = carried-room R a.plan k i.r own.result own.ensures;
-        inside = omega (arith, own-fits R a.plan k i.r i.start own.result order i.invariant.1 own.ensures, c.requires.0.ready.size);
-        fits = i.invariant.2 ∙ c.requires.2;
+        inside = omega (arith, own-fits R a.plan k i.r i.start own.result order i.invariant.0 own.ensures, c.requires.0.ready.size);
+        fits = i.invariant.1 ∙ c.requires.2;
       },
-      omega (arith, start_in R a.plan a.terms k (versioned _ _ c.requires.0.version) a.from c.requires.1, i.invariant.2, c.requires.2),
-      rw part_rest (simp length-drop (omega (arith, room, i.invariant.4.same, c.requires.0.room))),
+      omega (arith, start_in R a.plan a.terms k (versioned _ _ c.requires.0.version) a.from c.requires.1, i.invariant.1, c.requires.2),
+      rw part_rest (simp length-drop (omega (arith, room, i.invariant.3.same, c.requires.0.room))),
     )
 
 pub overflow_add-start : goal.overflow_add-start
@@ -86,7 +66,7 @@ overflow_add-start c =
     let e = c.share_of-e in
     let order : i.r < a.plan.blocks = omega (arith, c) in
     let mine = share-is R a.plan a.terms k a.g.0 i.r e.result.0 (ap (λ (x : CodedBits). x.0) e.ensures) in
-    let fits = own-fits R a.plan k i.r i.start own.result order i.invariant.1 own.ensures in
+    let fits = own-fits R a.plan k i.r i.start own.result order i.invariant.0 own.ensures in
     omega (arith, fits, k.cut.bits_high)
 
 pub overflow_add-at : goal.overflow_add-at
@@ -100,12 +80,9 @@ overflow_add-at c =
     let e = c.share_of-e in
     let order : i.r < a.plan.blocks = omega (arith, c) in
     let mine = share-is R a.plan a.terms k a.g.0 i.r e.result.0 (ap (λ (x : CodedBits). x.0) e.ensures) in
-    let room = share-fits R a.plan a.terms k a.g.0 c.requires.0.allocated i.r i.at e.result.0 order i.invariant.3 mine in
-    let fits = own-fits R a.plan k i.r i.start own.result order i.invariant.1 own.ensures in
+    let room = share-fits R a.plan a.terms k a.g.0 c.requires.0.allocated i.r i.at e.result.0 order i.invariant.2 mine in
+    let fits = own-fits R a.plan k i.r i.start own.result order i.invariant.0 own.ensures in
     omega (arith, room, fits, k.cut.bits_high, c.requires.0.allocated.most)
-
-pub overflow_add-r : goal.overflow_add-r
-overflow_add-r c = omega (arith, c.before.before.before.before.before.before.before.before.before.before)
 
 pub loop-r-preserved : goal.loop-r-preserved
 loop-r-preserved c =
@@ -122,19 +99,12 @@ loop-r-preserved c =
     let f = block_sent R a.plan.bits s a.terms a.g.0 in
     let turn = start_turn R a.terms.edition a.plan.bits i.r in
     let here = own_is R a.plan k i.r own.result own.ensures in
-    let written = sent.ensures ∙ ap (λ (x : List ℕ). x ++ drop e.result.0 (take (length i.out - i.at) (drop i.at i.out))) (block-is R a.plan a.terms k a.g.0 s i.r i.start own.result a.from e.result.0 i.invariant.1 own.ensures c.requires.1 mine) in (
-      omega (arith, order),
-      omega (arith, turn, here, i.invariant.1),
-      omega (arith, sent.auto.word, i.invariant.2),
-      omega (arith, share-turn R a.plan a.terms k a.g.0 i.r i.at e.result.0 i.invariant.3 mine),
-      joined_more f a.out.now i.out sent.new.out i.r i.at e.result.0 _ (omega arith) i.invariant.4 (length-block R a.plan a.terms k a.g.0 s i.r ∙ sym mine) written c.out-1.given.1,
+    let written = sent.ensures ∙ ap (λ (x : List ℕ). x ++ drop e.result.0 (take (length i.out - i.at) (drop i.at i.out))) (block-is R a.plan a.terms k a.g.0 s i.r i.start own.result a.from e.result.0 i.invariant.0 own.ensures c.requires.1 mine) in (
+      omega (arith, turn, here, i.invariant.0),
+      omega (arith, sent.auto.word, i.invariant.1),
+      omega (arith, share-turn R a.plan a.terms k a.g.0 i.r i.at e.result.0 i.invariant.2 mine),
+      joined_more f a.out.now i.out sent.new.out i.r i.at e.result.0 _ (omega arith) i.invariant.3 (length-block R a.plan a.terms k a.g.0 s i.r ∙ sym mine) written c.out-1.given.1,
     )
-
-pub shape_of-word : goal.shape_of-word
-shape_of-word c = c.loop-r.invariant.2
-
-pub shape_of-out : goal.shape_of-out
-shape_of-out c = c.loop-r.invariant.4.same
 
 pub returns : goal.returns
 unfolding radio_bits
@@ -144,10 +114,10 @@ returns c =
     let s = a.bits.now in
     let k = of_fields R a.terms.edition a.plan c.requires.0.ready.of in
     let i = c.loop-r in
-    let all : blocks R a.terms.edition a.plan.bits ≡ i.r = omega (arith, k.blocks_is, i.invariant.0, c) in
+    let all : blocks R a.terms.edition a.plan.bits ≡ i.r = omega (arith, k.blocks_is, c) in
     let f = block_sent R a.plan.bits s a.terms a.g.0 in
     let given = rw k.blocks_is at c.requires.0.allocated in
     let end : i.at ≡ a.g.0 =
-    i.invariant.3 ∙ ap (λ (n : ℕ). sum_below n (λ j. (share a.terms a.g.0 (blocks R a.terms.edition a.plan.bits) j).0)) (sym all)
+    i.invariant.2 ∙ ap (λ (n : ℕ). sum_below n (λ j. (share a.terms a.g.0 (blocks R a.terms.edition a.plan.bits) j).0)) (sym all)
     ∙ shares_all a.terms a.g.0 (blocks R a.terms.edition a.plan.bits) given in
-    i.invariant.4.is ∙ ap₂ (λ (n at : ℕ). joined n f ++ drop at a.out.now) (sym all) end
+    i.invariant.3.is ∙ ap₂ (λ (n at : ℕ). joined n f ++ drop at a.out.now) (sym all) end

@@ -1,34 +1,47 @@
-use mathlib.Core.Path.{ap, ◌∙◌}
-use mathlib.Core.List.{List}
-use Prim.Native.Nat.{ℕ, ◌<◌}
+use mathlib.Core.Path.{◌∙◌}
+use Prim.Native.Nat.{◌<◌}
 use native.Mathlib.Omega.{arith}
-use lib.ListN.{get_or}
-use Rattle.control.proofs.Loops.{before-none, before-all, scattered_none, scattered_whole}
+use Rattle.control.specs.Interleaver.{columns}
+use Rattle.control.proofs.Ordering.{column_lt}
+use Rattle.control.proofs.Loops.{before-none, before-all, column-first, column-turn, column-end, column_bound, scattered_none, scattered_on, scattered_whole}
 use Rattle.control.proofs.Backwards.{scattered-back}
-use borrow.Author.Rules.{rules}
+use Rattle.control.proofs.streams.put_back.Goals.{else-loop-p-test, then-loop-p-test+else-d-p-gt32}
 use Rattle.control.proofs.streams.put_back.Goals as goal
 
-pub loop-j-init : goal.loop-j-init
-loop-j-init c =
-    (search rules, before-none c.args.d, scattered_none c.args.d (omega (arith, c.requires)) c.requires.1 c.args.bits.now c.args.out.now)
+pub loop-c-init : goal.loop-c-init
+loop-c-init c = (before-none c.args.d, scattered_none c.args.d (omega (arith, c.requires)) c.requires.1 c.args.bits.now c.args.out.now)
 
-pub scatter_column-n-requires : goal.scatter_column-n-requires
-scatter_column-n-requires c =
-    let l = c.loop-j in
-    (omega (arith, c.requires), c.requires.1, search rules, ap (λ (t : List ℕ). get_or t l.j 0) c.columns-columns.ensures, l.invariant.1, c.requires.3, omega (arith, l.invariant.2.len, c.requires.4))
+pub first_place-p-requires : goal.first_place-p-requires
+unfolding columns
+first_place-p-requires c = (c.requires.1, column_lt c.loop-c.c-index (omega arith))
 
-pub loop-j-preserved : goal.loop-j-preserved
-loop-j-preserved c =
-    let l = c.loop-j in
-    let one = c.scatter_column-n.ensures in
-    (search rules, one.0, one.1 _ l.invariant.2)
+pub loop-p-init : goal.loop-p-init
+unfolding columns
+loop-p-init c =
+    let l = c.loop-c in
+    let k = column-first c.args.d l.c-index l.n _ (omega (arith, c.requires)) c.requires.1 (omega arith) l.invariant.0 c.first_place-p.ensures in
+    (k, column_bound k, l.invariant.1)
 
-pub shape_of-out : goal.shape_of-out
-shape_of-out c = c.loop-j.invariant.2.len
+pub loop-p-preserved : goal.loop-p-preserved
+loop-p-preserved c =
+    let k = c.loop-p.invariant.0 in
+    let l = c.loop-p-test.true in
+    let t = column-turn k l in
+    (t, column_bound t, scattered_on c.args.d (omega (arith, c.requires)) c.requires.1 c.args.bits.now c.args.out.now _ _ k l c.loop-p.invariant.2 c.put_three.ensures)
+
+pub loop-c-preserved : goal.loop-c-preserved
+loop-c-preserved c =
+    let k = c.loop-p.invariant.0 in
+    elim c.loop-p-test.branch [
+      | else-loop-p-test w ↦ (w.n-is ∙ column-end k w.loop-p-test.false, rw (w.n-is, w.out-is) c.loop-p.invariant.2)
+      | then-loop-p-test+else-d-p-gt32 w ↦
+          let l = w.loop-p-test.true in
+          (w.n-is ∙ column-end (column-turn k l) (omega arith), rw (w.n-is, w.out-is) (scattered_on c.args.d (omega (arith, c.requires)) c.requires.1 c.args.bits.now c.args.out.now _ _ k l c.loop-p.invariant.2 w.put_three.ensures))
+    ]
 
 pub returns : goal.returns
 returns c =
-    let l = c.loop-j in
+    let l = c.loop-c in
     let some : 0 < c.args.d = omega (arith, c.requires) in
-    let all = l.invariant.1 ∙ before-all c.args.d some c.requires.1 l.j (omega arith) in
-    scattered-back c.args.d some c.requires.1 c.args.bits.now c.requires.2 c.requires.3 c.requires.5 c.args.out.now _ c.requires.4 (scattered_whole c.args.d some c.requires.1 l.n _ _ _ all l.invariant.2)
+    let all = l.invariant.0 ∙ before-all c.args.d c.requires.1 l.c-index (omega arith) in
+    scattered-back c.args.d some c.requires.1 c.args.bits.now c.requires.2 c.requires.3 c.requires.5 c.args.out.now _ c.requires.4 (scattered_whole c.args.d some c.requires.1 l.n _ _ _ all l.invariant.1)

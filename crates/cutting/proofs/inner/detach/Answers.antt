@@ -1,8 +1,7 @@
-use mathlib.Core.Path.{◌≡◌, refl, sym, ap, ◌∙◌}
+use mathlib.Core.Path.{◌≡◌, refl, ap, ◌∙◌}
 use Prim.Native.Nat.{ℕ, ◌≤◌}
 use native.Mathlib.Omega.{arith}
 use lib.ListN.{length, take}
-use lib.Seq.{length-take-le}
 use borrow.Author.Rules.{rules}
 use Rattle.bits.specs.Bits.{unpacked, packed}
 use Rattle.checksum.specs.Crc.{gen24_a}
@@ -18,11 +17,6 @@ use Rattle.cutting.proofs.inner.detach.Goals as goal
 pub pack-requires : goal.pack-requires
 unfolding block_bits
 pack-requires c = search rules
-
-pub slice_bounds-is_attached-end-2 : goal.slice_bounds-is_attached-end-2
-slice_bounds-is_attached-end-2 c =
-    let a = c.args in
-    sym (length-take-le a.octets c.pack.new.out (search rules))
 
 pub is_attached-requires : goal.is_attached-requires
 unfolding block_bits other_width

@@ -5,19 +5,13 @@ use lib.ListN.{take}
 use Rattle.cutting.proofs.Summed.{without_sum, put-sum}
 use Rattle.cutting.proofs.inner.lay_sum.Goals as goal
 
-pub returns-then-sums-eq0 : goal.returns-then-sums-eq0
-returns-then-sums-eq0 c =
+pub returns-else-sums-ne0 : goal.returns-else-sums-ne0
+returns-else-sums-ne0 c =
     let a = c.args in
-    let w = a.word.now in
-    let none : a.own + a.sums ≡ a.own = omega (arith, c.if-sums-eq0.true) in
-    ap (λ (n : ℕ). take n w) none ∙ sym (without_sum a.sums (take a.own w) c.if-sums-eq0.true)
+    let none : a.own + a.sums ≡ a.own = omega (arith, c.if-sums-ne0.false) in
+    ap (λ (n : ℕ). take n a.word.now) none ∙ sym (without_sum a.sums (take a.own a.word.now) c.if-sums-ne0.false)
 
-pub append-requires : goal.append-requires
-append-requires c =
-    (omega (arith, c.requires.0, c.requires.1 c.if-sums-eq0.false), c.requires.2)
-
-pub returns : goal.returns
-returns c =
+pub returns-then-sums-ne0 : goal.returns-then-sums-ne0
+returns-then-sums-ne0 c =
     let a = c.args in
-    let some = c.if-sums-eq0.false in
-    ap (take (a.own + a.sums)) c.append.ensures ∙ put-sum a.sums a.word.now a.own c.requires.1 some c.requires.0
+    ap (take (a.own + a.sums)) c.append.ensures ∙ put-sum a.sums a.word.now a.own c.requires.1 c.if-sums-ne0.true c.requires.0

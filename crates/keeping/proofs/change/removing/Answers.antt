@@ -4,62 +4,41 @@ use Prim.Native.Nat.{ℕ, ◌-◌}
 use native.Mathlib.Omega.{arith}
 use lib.Dec.{eqb}
 use lib.ListN.{length}
-use borrow.Author.Tests.{not-true, not-false}
 use Rattle.shelf.specs.Shelf.{private_shelf}
 use Rattle.shelf.specs.Lookup.{has}
-use Rattle.keeping.specs.Entries.{entries_left}
 use Rattle.keeping.specs.Promises.{remove_number}
-use Rattle.keeping.proofs.Sizes.{freed-inside, remove_zero, remove-unformed, remove_none, remove-room, refused_changes, left_changes}
+use Rattle.keeping.proofs.Sizes.{freed-inside, remove_zero, remove-unformed, remove_none, remove-room, left_changes}
 use Rattle.keeping.proofs.change.removing.Goals as goal
 
 pub returns-then-tenant-eq0 : goal.returns-then-tenant-eq0
 returns-then-tenant-eq0 c =
     let a = c.args in
-    let S = a.private.now in
-    let n = remove_zero S a.tenant a.profile a.lent c.if-tenant-eq0.true in
-    refused_changes S a.tenant a.profile (entries_left S a.tenant a.profile) a.lent (remove_number S a.tenant a.profile a.lent) c.refused.result
-    (c.refused.ensures ∙ sym n) (λ z. omega (arith, n, z))
+    sym (remove_zero a.private.now a.tenant a.profile a.lent c.if-tenant-eq0.true)
 
 pub returns-then-not-well_formed : goal.returns-then-not-well_formed
 returns-then-not-well_formed c =
     let a = c.args in
-    let S = a.private.now in
-    let wrong : private_shelf S ≡ false = sym c.well_formed-2.ensures ∙ not-true _ c.if-not-well_formed.true-raw in
-    let n = remove-unformed S a.tenant a.profile a.lent c.if-tenant-eq0.false wrong in
-    refused_changes S a.tenant a.profile (entries_left S a.tenant a.profile) a.lent (remove_number S a.tenant a.profile a.lent) c.refused-then-not-well_formed.result
-    (c.refused-then-not-well_formed.ensures ∙ sym n) (λ z. omega (arith, n, z))
-
-pub of-place-requires : goal.of-place-requires
-of-place-requires c =
-    let formed : private_shelf c.args.private.now ≡ true = sym c.well_formed-2.ensures ∙ not-false _ c.if-not-well_formed.false-raw in
-    (formed, c.requires.0, c.requires.1)
+    sym (remove-unformed a.private.now a.tenant a.profile a.lent c.if-tenant-eq0.false (sym c.well_formed-2.ensures ∙ c.if-not-well_formed.true))
 
 pub returns-then-place-eq0 : goal.returns-then-place-eq0
 returns-then-place-eq0 c =
-    let formed : private_shelf c.args.private.now ≡ true = sym c.well_formed-2.ensures ∙ not-false _ c.if-not-well_formed.false-raw in
+    let formed : private_shelf c.args.private.now ≡ true = sym c.well_formed-2.ensures ∙ c.if-not-well_formed.false in
     let a = c.args in
     let S = a.private.now in
     let zero : c.of-place.result.gone ≡ 0 = omega (arith, c.if-place-eq0.true) in
     let none : has S a.tenant a.profile ≡ false = c.of-place.ensures.held ∙ ap (λ (g : ℕ). eqb g 1) zero in
-    let n = remove_none S a.tenant a.profile a.lent c.if-tenant-eq0.false formed none in
-    refused_changes S a.tenant a.profile (entries_left S a.tenant a.profile) a.lent (remove_number S a.tenant a.profile a.lent) c.refused-then-place-eq0.result
-    (c.refused-then-place-eq0.ensures ∙ sym n) (λ z. omega (arith, n, z))
-
-pub freed-requires : goal.freed-requires
-freed-requires c =
-    let formed : private_shelf c.args.private.now ≡ true = sym c.well_formed-2.ensures ∙ not-false _ c.if-not-well_formed.false-raw in
-    (formed, c.of-place.ensures.one, c.of-place.ensures.inside)
+    sym (remove_none S a.tenant a.profile a.lent c.if-tenant-eq0.false formed none)
 
 pub overflow_sub-size : goal.overflow_sub-size
 overflow_sub-size c =
-    let formed : private_shelf c.args.private.now ≡ true = sym c.well_formed-2.ensures ∙ not-false _ c.if-not-well_formed.false-raw in
+    let formed : private_shelf c.args.private.now ≡ true = sym c.well_formed-2.ensures ∙ c.if-not-well_formed.false in
     let a = c.args in
     let r = c.of-place.result in
     omega (arith, freed-inside a.private.now r.at r.gone formed c.of-place.ensures.one c.of-place.ensures.inside, c.freed.ensures)
 
 pub returns : goal.returns
 returns c =
-    let formed : private_shelf c.args.private.now ≡ true = sym c.well_formed-2.ensures ∙ not-false _ c.if-not-well_formed.false-raw in
+    let formed : private_shelf c.args.private.now ≡ true = sym c.well_formed-2.ensures ∙ c.if-not-well_formed.false in
     let a = c.args in
     let S = a.private.now in
     let r = c.of-place.result in

@@ -1,4 +1,4 @@
-use mathlib.Core.Path.{◌≡◌}
+use mathlib.Core.Path.{◌≡◌, sym}
 use mathlib.Core.Bool.{true}
 use Prim.Native.Nat.{◌+◌, ◌-◌, ◌≤◌, ◌<◌}
 use native.Mathlib.Omega.{arith}
@@ -6,7 +6,7 @@ use lib.ListN.{length}
 use Rattle.shelf.specs.Shelf.{count}
 use Rattle.shelf.proofs.WellFormed.{Formed, formed-is}
 use Rattle.keeping.specs.Steps.Places.{freed, size_with}
-use Rattle.keeping.proofs.Sizes.{freed-inside, room-entries, room-octets, full_roomed, within_roomed}
+use Rattle.keeping.proofs.Sizes.{freed-inside, room-entries, room-octets, within_roomed}
 use Rattle.keeping.proofs.change.with_room.Goals as goal
 
 pub count-requires : goal.count-requires
@@ -19,7 +19,7 @@ returns-then-count-spot-gt64 c =
     let a = c.args in
     let S = a.private.now in
     let many : 64 < count S + 1 - a.spot.gone = omega (arith, c.count.ensures.0, c.if-count-spot-gt64.true) in
-    full_roomed S a.spot.at a.spot.gone a.n a.lent c.refused.result c.refused.ensures (room-entries S a.spot.at a.spot.gone a.n a.lent many)
+    sym (room-entries S a.spot.at a.spot.gone a.n a.lent many)
 
 pub returns-then-n-gt65535 : goal.returns-then-n-gt65535
 unfolding size_with
@@ -27,24 +27,11 @@ returns-then-n-gt65535 c =
     let a = c.args in
     let S = a.private.now in
     let much : 65535 < length S - freed S a.spot.at a.spot.gone + 8 + a.n = omega (arith, c.if-n-gt65535.true) in
-    full_roomed S a.spot.at a.spot.gone a.n a.lent c.refused-then-n-gt65535.result c.refused-then-n-gt65535.ensures (room-octets S a.spot.at a.spot.gone a.n a.lent much)
-
-pub freed-requires : goal.freed-requires
-freed-requires c = (c.requires.0, c.requires.1, c.requires.2)
+    sym (room-octets S a.spot.at a.spot.gone a.n a.lent much)
 
 pub overflow_sub-size : goal.overflow_sub-size
 overflow_sub-size c =
     omega (arith, freed-inside c.args.private.now c.args.spot.at c.args.spot.gone c.requires.0 c.requires.1 c.requires.2, c.freed.ensures)
-
-pub overflow_add-size : goal.overflow_add-size
-overflow_add-size c =
-    let formed : Formed c.args.private.now true = formed-is c.args.private.now true c.requires.0 in
-    omega (arith, formed.sizes.short)
-
-pub overflow_add-size-2 : goal.overflow_add-size-2
-overflow_add-size-2 c =
-    let formed : Formed c.args.private.now true = formed-is c.args.private.now true c.requires.0 in
-    omega (arith, formed.sizes.short, c.if-n-gt65535.false)
 
 pub returns-then-size-gt65535 : goal.returns-then-size-gt65535
 unfolding size_with
@@ -52,7 +39,7 @@ returns-then-size-gt65535 c =
     let a = c.args in
     let S = a.private.now in
     let much : 65535 < length S - freed S a.spot.at a.spot.gone + 8 + a.n = omega (arith, c.freed.ensures, c.if-size-gt65535.true) in
-    full_roomed S a.spot.at a.spot.gone a.n a.lent c.refused-then-size-gt65535.result c.refused-then-size-gt65535.ensures (room-octets S a.spot.at a.spot.gone a.n a.lent much)
+    sym (room-octets S a.spot.at a.spot.gone a.n a.lent much)
 
 pub returns : goal.returns
 unfolding size_with

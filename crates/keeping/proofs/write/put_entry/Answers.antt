@@ -19,7 +19,3 @@ pub profile-requires : goal.profile-requires
 profile-requires c =
     let inside : 10 + 8 * c.args.k ≤ length c.args.private.now = omega (arith, (formed-is c.args.private.now true c.requires.0).sizes.room) in
     inside
-
-pub returns : goal.returns
-returns c =
-    (cc (c.put_head.ensures, c.profile.ensures.0, c.tenant.ensures.0, c.size-size.ensures.0), omega (arith, c.size-size.ensures.0))

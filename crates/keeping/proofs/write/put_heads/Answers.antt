@@ -13,13 +13,12 @@ loop-k-preserved c =
     let l = c.loop-k in
     let S = a.private.now in
     let f = formed-is S true c.requires.0 in
-    let more : l.k < a.to = c.loop-k-test.true in
+    let more : l.k < a.to = omega arith in
     let last : a.to ≤ count S = c.requires.2 in (
-      omega (arith, more),
-      omega (arith, more, l.invariant.1),
-      omega (arith, put.auto, l.invariant.2),
-      omega (arith, put.ensures.1, l.invariant.3, records-turn S true f a.to l.k more last),
-      cc (heads-turn S true f a.to l.k more last l.out l.place l.next, put.ensures.0, put.ensures.1, l.invariant.4),
+      omega (arith, more, l.invariant.0),
+      omega (arith, put.auto, l.invariant.1),
+      omega (arith, put.ensures.1, l.invariant.2, records-turn S true f a.to l.k more last),
+      cc (heads-turn S true f a.to l.k more last l.out l.place l.next, put.ensures.0, put.ensures.1, l.invariant.3),
     )
 
 pub returns : goal.returns
@@ -29,4 +28,4 @@ returns c =
     let S = a.private.now in
     let f = formed-is S true c.requires.0 in
     let end : a.to ≤ l.k = omega arith in
-    (cc (heads_end S true f a.to l.k end l.out l.place l.next, l.invariant.4), omega (arith, l.invariant.3, records_end S true f a.to l.k end))
+    (cc (heads_end S true f a.to l.k end l.out l.place l.next, l.invariant.3), omega (arith, l.invariant.2, records_end S true f a.to l.k end))

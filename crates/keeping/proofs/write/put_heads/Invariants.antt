@@ -8,9 +8,6 @@ use Rattle.keeping.proofs.write.put_heads.Given as goal
 
 abbrev pub invariant-loop-k : goal.invariant-loop-k
 invariant-loop-k l =
-    (l.k ≤ l.to) × (l.place + 8 * (l.to - l.k) ≤ length l.initial.out) × (length l.out ≡ length l.initial.out)
+    (l.place + 8 * (l.to - l.k) ≤ length l.initial.out) × (length l.out ≡ length l.initial.out)
     × (l.next + length (records (entries_from l.private (l.to - l.k) l.k)) ≡ l.offset + length (records (entries_from l.private (l.to - l.from) l.from)))
     × (sets l.out l.place (heads l.next (entries_from l.private (l.to - l.k) l.k)) ≡ sets l.initial.out l.at (heads l.offset (entries_from l.private (l.to - l.from) l.from)))
-
-abbrev pub decreases-loop-k : goal.decreases-loop-k
-decreases-loop-k l = l.to - l.k

@@ -26,7 +26,7 @@ overflow_sub-end c =
     let part : offset_due c.args.private.now c.args.from
     + length (records (entries_from c.args.private.now (c.args.to - c.args.from) c.args.from))
     ≡ offset_due c.args.private.now c.args.to = due_part c.args.private.now true formed c.args.from c.args.to c.requires.1 c.requires.2 in
-    omega (arith, part, c.due-start.ensures, c.due-end.ensures)
+    omega (arith, part, c.due-start.ensures.0, c.due-end.ensures.0)
 
 pub lay-requires : goal.lay-requires
 lay-requires c =
@@ -35,7 +35,7 @@ lay-requires c =
     + length (records (entries_from c.args.private.now (c.args.to - c.args.from) c.args.from))
     ≡ offset_due c.args.private.now c.args.to = due_part c.args.private.now true formed c.args.from c.args.to c.requires.1 c.requires.2 in
     let within : offset_due c.args.private.now c.args.to ≤ length c.args.private.now = due-within c.args.private.now true formed c.args.from c.args.to c.requires.1 c.requires.2 in
-    (omega (arith, part, within, c.due-start.ensures, c.due-end.ensures), omega (arith, part, c.requires.3, c.due-start.ensures, c.due-end.ensures))
+    (omega (arith, part, within, c.due-start.ensures.0, c.due-end.ensures.0), omega (arith, part, c.requires.3, c.due-start.ensures.0, c.due-end.ensures.0))
 
 pub returns : goal.returns
 returns c =
@@ -50,6 +50,6 @@ returns c =
     let start = c.due-start.result in
     let end = c.due-end.result in
     laid-sets S a.out.now lay.new.out start (end - start) a.at
-    (omega (arith, part, within, c.due-start.ensures, c.due-end.ensures)) (omega (arith, part, c.requires.3, c.due-start.ensures, c.due-end.ensures)) lay.ensures
+    (omega (arith, part, within, c.due-start.ensures.0, c.due-end.ensures.0)) (omega (arith, part, c.requires.3, c.due-start.ensures.0, c.due-end.ensures.0)) lay.ensures
     ∙ ap (sets a.out.now a.at)
-    (ap₂ (λ (x y : ℕ). take (y - x) (drop x S)) c.due-start.ensures c.due-end.ensures ∙ part_is S true formed a.from a.to c.requires.1 c.requires.2)
+    (ap₂ (λ (x y : ℕ). take (y - x) (drop x S)) c.due-start.ensures.0 c.due-end.ensures.0 ∙ part_is S true formed a.from a.to c.requires.1 c.requires.2)

@@ -75,15 +75,6 @@ lay-requires c =
     let e = c.count-count.ensures.0 in
     (omega arith, omega (arith, c.put_heads-mine.ensures.1, c.put_records.auto, c.put_heads.auto, c.put_head.auto, c.put_heads-mine.auto, c.put_number.auto))
 
-pub overflow_add-mine-2 : goal.overflow_add-mine-2
-overflow_add-mine-2 c =
-    let fits : Fits c.args.private.now c.args.spot.at c.args.spot.gone c.count-count.result
-    (c.count-count.result + 1 - c.args.spot.gone) (length c.args.octets.now) (length c.args.out.now) = let a = c.args in
-    put_fits a.private.now a.tenant a.profile a.spot.at a.spot.gone c.count-count.result a.size (length a.out.now) c.count-count.ensures.0 a.octets.now c.requires.2 in
-    let f = fits in
-    let e = c.count-count.ensures.0 in
-    omega (arith, c.put_heads-mine.ensures.1)
-
 pub put_records-requires-2 : goal.put_records-requires-2
 put_records-requires-2 c =
     let fits : Fits c.args.private.now c.args.spot.at c.args.spot.gone c.count-count.result

@@ -11,12 +11,6 @@ use Rattle.keeping.proofs.write.without_record.Goals as goal
 pub count-count-requires : goal.count-count-requires
 count-count-requires c = omega (arith, (formed-is c.args.private.now true c.requires.1.formed).sizes.room)
 
-pub overflow_sub-kept : goal.overflow_sub-kept
-overflow_sub-kept c =
-    let fits : Fits c.args.private.now c.args.spot.at 1 c.count-count.result (c.count-count.result - 1) 0 (length c.args.out.now) = let a = c.args in
-    left-fits a.private.now a.tenant a.profile a.spot.at a.spot.gone c.count-count.result a.size (length a.out.now) c.count-count.ensures.0 c.requires.0 c.requires.1 in
-    let f = fits in omega arith
-
 pub put_number-requires : goal.put_number-requires
 put_number-requires c =
     let fits : Fits c.args.private.now c.args.spot.at 1 c.count-count.result (c.count-count.result - 1) 0 (length c.args.out.now) = let a = c.args in

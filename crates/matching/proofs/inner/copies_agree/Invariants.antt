@@ -1,14 +1,10 @@
 -- The loop's invariant: `agree` says whether the places up to k do.
 use mathlib.Core.Path.{◌≡◌}
-use Prim.Native.Nat.{◌+◌, ◌-◌, ◌≤◌}
+use Prim.Native.Nat.{◌+◌, ◌-◌}
 use lib.Dec.{eqb}
-use lib.ListN.{length, get_or}
+use lib.ListN.{get_or}
 use Rattle.bits.specs.Ranges.{all_below}
 use Rattle.matching.proofs.inner.copies_agree.Given as goal
 
 abbrev pub invariant-loop-k : goal.invariant-loop-k
-invariant-loop-k l =
-    (l.first ≤ l.k) × (l.k ≤ length l.s) × (l.agree ≡ all_below (l.k - l.first) (λ j. eqb (get_or l.s (l.first + j) 0) (get_or l.s j 0)))
-
-abbrev pub decreases-loop-k : goal.decreases-loop-k
-decreases-loop-k l = length l.s - l.k
+invariant-loop-k l = l.agree ≡ all_below (l.k - l.first) (λ j. eqb (get_or l.s (l.first + j) 0) (get_or l.s j 0))

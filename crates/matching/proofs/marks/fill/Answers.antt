@@ -4,11 +4,6 @@ use borrow.Author.Rules.{rules}
 use Rattle.matching.proofs.Put.{put_enough, put_again, put_some, put_halves, asked_some}
 use Rattle.matching.proofs.marks.fill.Goals as goal
 
-pub put_all_kept-all-requires : goal.put_all_kept-all-requires
-put_all_kept-all-requires c =
-    let one = c.put_all_kept-one.ensures in
-    (search rules, one.most, omega (arith, one.len, c.requires.1))
-
 pub repeat-requires : goal.repeat-requires
 repeat-requires c =
     let a = c.args in

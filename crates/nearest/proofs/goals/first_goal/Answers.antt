@@ -1,18 +1,12 @@
 use Rattle.nearest.proofs.Charges.{low-goal}
-use Rattle.nearest.proofs.Loops.{row-goal, filled-goal}
+use Rattle.nearest.proofs.Loops.{row-goal}
 use Rattle.nearest.proofs.goals.first_goal.Goals as goal
 
 pub fill-row-requires : goal.fill-row-requires
 fill-row-requires c =
     let a = c.args in
     let p = c.requires in
-    (p.0, low-goal a.goal _ p.1 c.end_at.ensures, p.2)
-
-pub walk-requires : goal.walk-requires
-walk-requires c =
-    let a = c.args in
-    let p = c.requires in
-    (p.0, p.1, filled-goal a.steps.now a.d a.goal _ c.end_at.ensures _ c.fill-row.ensures.1, p.3)
+    (p.0, low-goal a.goal _ p.1 c.end_at.ensures)
 
 pub returns : goal.returns
 returns c =

@@ -1,4 +1,4 @@
-use mathlib.Core.Path.{refl, sym, ◌∙◌}
+use mathlib.Core.Path.{refl, ◌∙◌}
 use Prim.Native.Nat.{◌%◌}
 use native.Mathlib.Omega.{arith}
 use Rattle.nearest.specs.Steps.Trellis.{cost}
@@ -13,7 +13,7 @@ pub fill-open_costs-requires : goal.fill-open_costs-requires
 fill-open_costs-requires c =
     let a = c.args in
     let p = c.requires in
-    (ready a.d a.heard.now _ _ p.1 p.3 c.steps-steps.ensures c.prices-prices.ensures, low_open _ 500 c.end_open.ensures, search rules)
+    (ready a.d a.heard.now _ _ p.1 p.3 c.steps-steps.ensures c.prices-prices.ensures, low_open _ 500 c.end_open.ensures)
 
 pub ranked-left-requires : goal.ranked-left-requires
 ranked-left-requires c =
@@ -25,7 +25,7 @@ pub first_goal-best-requires : goal.first_goal-best-requires
 first_goal-best-requires c =
     let a = c.args in
     let p = c.requires in
-    (ready a.d a.heard.now _ _ p.1 p.3 c.steps-steps.ensures c.prices-prices.ensures, search rules, search rules, p.4)
+    (ready a.d a.heard.now _ _ p.1 p.3 c.steps-steps.ensures c.prices-prices.ensures, omega (arith, c.from-first.ensures), p.4)
 
 pub loop-key-init : goal.loop-key-init
 loop-key-init c =
@@ -35,13 +35,7 @@ loop-key-init c =
     let row = open_row _ a.d _ _ c.end_open.ensures c.fill-open_costs.ensures.0 in
     let low = open_low a.d _ _ (ready a.d a.heard.now _ _ p.1 p.3 c.steps-steps.ensures c.prices-prices.ensures) _ row in
     let best = best_front (cost _) a.d c.fill-open_costs.result _ _ g.result a.out.now _ (omega arith) low (λ s m. open_goal _ a.d s _ m row) c.ranked-left.ensures g.ensures.0 g.ensures.1 in
-    (search rules, refl, refl, best, c.least_of-key.ensures)
-
-pub slice_bounds-next_goal-end : goal.slice_bounds-next_goal-end
-slice_bounds-next_goal-end c = sym c.loop-key.invariant.3.len
-
-pub slice_bounds-next_goal-end-in-loop-key : goal.slice_bounds-next_goal-end-in-loop-key
-slice_bounds-next_goal-end-in-loop-key c = sym c.loop-key.invariant.0
+    (refl, refl, best, c.least_of-key.ensures)
 
 pub next_goal-best-requires : goal.next_goal-best-requires
 next_goal-best-requires c =
@@ -49,26 +43,16 @@ next_goal-best-requires c =
     let p = c.requires in
     let l = c.loop-key in
     let g = c.first_goal-best in
-    (ready a.d a.heard.now _ _ p.1 p.3 c.steps-steps.ensures c.prices-prices.ensures, omega arith, l.invariant.0, omega (arith, p.4, l.invariant.1, g.auto.out), l.invariant.3)
+    (ready a.d a.heard.now _ _ p.1 p.3 c.steps-steps.ensures c.prices-prices.ensures, omega arith, omega (arith, p.4, l.invariant.0, g.auto.out), l.invariant.2)
 
 pub loop-key-smaller : goal.loop-key-smaller
 loop-key-smaller c =
     let a = c.args in
     let p = c.requires in
     let l = c.loop-key in
-    let low = best_low (cost _) a.d l.left l.best _ (goal_bound a.d _ _ (ready a.d a.heard.now _ _ p.1 p.3 c.steps-steps.ensures c.prices-prices.ensures)) l.invariant.3 in
-    let still = next-left (cost _) a.d l.left l.best _ l.key l.invariant.3 low l.invariant.4 (search rules) in
-    rw c.next_goal-best.ensures.2 (one_less l.left (l.key % 64) l.invariant.3.len (omega arith) still)
-
-pub loop-key-preserved : goal.loop-key-preserved
-loop-key-preserved c =
-    let l = c.loop-key in
-    let t = c.next_goal-best in
-    let kept = t.auto in
-    (omega (arith, l.invariant.0, kept.left), omega (arith, l.invariant.1, kept.out), t.ensures.1 ∙ l.invariant.2, t.ensures.0, c.least_of-key-in-loop-key.ensures)
-
-pub shape_of-out : goal.shape_of-out
-shape_of-out c = omega (arith, c.loop-key.invariant.1, c.first_goal-best.auto.out)
+    let low = best_low (cost _) a.d l.left l.best _ (goal_bound a.d _ _ (ready a.d a.heard.now _ _ p.1 p.3 c.steps-steps.ensures c.prices-prices.ensures)) l.invariant.2 in
+    let still = next-left (cost _) a.d l.left l.best _ l.key l.invariant.2 low l.invariant.3 (search rules) in
+    rw (c.next_goal-best.ensures.2, c.from-goal.ensures) (one_less l.left (l.key % 64) l.invariant.2.len (omega arith) still)
 
 pub returns : goal.returns
 returns c =
@@ -78,4 +62,4 @@ returns c =
     let g = c.first_goal-best in
     let rest = goal-rest (cost _) a.d _ a.out.now _ g.ensures.1 in
     let given : Given a.d a.heard.now _ = record { six = p.0; most = p.1; size = p.2; single = p.3; steps = c.steps-steps.ensures } in
-    best_all a.d a.heard.now _ l.left l.best l.key l.out a.out.now given l.invariant.3 l.invariant.4 (search rules) (l.invariant.2 ∙ rest)
+    best_all a.d a.heard.now _ l.left l.best l.key l.out a.out.now given l.invariant.2 l.invariant.3 (search rules) (l.invariant.1 ∙ rest)

@@ -7,7 +7,7 @@ use Rattle.nearest.proofs.Best.{uncrossed}
 use Rattle.nearest.proofs.goals.put_nearest.Given as goal
 
 abbrev pub invariant-loop-key : goal.invariant-loop-key
-invariant-loop-key l = (length l.costs ≡ 8256) × (length l.out ≡ length l.initial.out) × (drop l.d l.out ≡ drop l.d l.initial.out) × Best (cost l.steps) l.d l.left l.best (take l.d l.out) × Least l.left 64 l.key
+invariant-loop-key l = (length l.out ≡ length l.initial.out) × (drop l.d l.out ≡ drop l.d l.initial.out) × Best (cost l.steps) l.d l.left l.best (take l.d l.out) × Least l.left 64 l.key
 
 abbrev pub decreases-loop-key : goal.decreases-loop-key
 decreases-loop-key l = uncrossed l.left

@@ -3,9 +3,6 @@ use native.Mathlib.Omega.{arith}
 use Rattle.nearest.proofs.Tolls.{heard-three}
 use Rattle.nearest.proofs.prices.heard_at.Goals as goal
 
-pub joined-requires : goal.joined-requires
-joined-requires c = let single = c.requires.1 in (single _, single _, single _)
-
 pub returns : goal.returns
 returns c =
     let a = c.args in

@@ -1,12 +1,10 @@
-use Rattle.nearest.proofs.Loops.{least_first, least_more, least-all}
-use borrow.Author.Rules.{rules}
+use mathlib.Core.Path.{ap, ◌∙◌}
+use Prim.Native.Nat.{ℕ, min}
+use native.Mathlib.Omega.{arith}
+use Rattle.nearest.proofs.Loops.{least_more, behind-first}
 use Rattle.nearest.proofs.rows.least_of.Goals as goal
 
-pub loop-s-init : goal.loop-s-init
-loop-s-init c = (search rules, least_first _)
-
-pub loop-s-preserved : goal.loop-s-preserved
-loop-s-preserved c = (search rules, least_more _ _ _ _ c.loop-s.invariant.1 c.lower-v.ensures)
-
-pub returns : goal.returns
-returns c = least-all _ _ _ c.loop-s.invariant.0 (search rules) c.loop-s.invariant.1
+pub loop-key-preserved : goal.loop-key-preserved
+loop-key-preserved c =
+    let l = c.loop-key in
+    least_more _ _ _ _ l.invariant (c.min-v.ensures ∙ ap (λ (x : ℕ). min l.v x) (behind-first c.args.keys.now 63 l.key-index (omega arith)))

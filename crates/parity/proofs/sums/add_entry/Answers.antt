@@ -3,9 +3,6 @@ use Rattle.parity.proofs.Runs.{span_fits}
 use Rattle.parity.proofs.Columns.{entered-empty, entered-filled}
 use Rattle.parity.proofs.sums.add_entry.Goals as goal
 
-pub run_start-requires : goal.run_start-requires
-run_start-requires c = c.requires.0 c.if-s-ne-EMPTY.true
-
 pub xor_row-requires : goal.xor_row-requires
 xor_row-requires c =
     let pre = c.requires in

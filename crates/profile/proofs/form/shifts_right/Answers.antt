@@ -1,22 +1,10 @@
-use mathlib.Core.Path.{ap, ◌∙◌}
-use Prim.Native.Nat.{ℕ}
-use native.Mathlib.Omega.{arith}
-use borrow.Author.Rules.{rules}
-use Rattle.bits.specs.Ranges.{all_below}
+use Rattle.std.proofs.Common.{get_or}
+use Rattle.profile.specs.Record.{shift_right}
 use Rattle.profile.proofs.Shape.{all_none, all_more}
-use Rattle.profile.proofs.form.shifts_right.Invariants.{passes}
 use Rattle.profile.proofs.form.shifts_right.Goals as goal
 
-pub loop-k-init : goal.loop-k-init
-loop-k-init c = (search rules, all_none (passes c.args.z c.args.table.now))
+pub loop-s-init : goal.loop-s-init
+loop-s-init c = all_none _
 
-pub loop-k-preserved : goal.loop-k-preserved
-loop-k-preserved c =
-    let a = c.args in
-    let l = c.loop-k in
-    (search rules, all_more (passes a.z a.table.now) l.k l.invariant.1 c.shift_right-right.ensures)
-
-pub returns : goal.returns
-returns c =
-    let a = c.args in
-    c.loop-k.invariant.1 ∙ ap (λ (n : ℕ). all_below n (passes a.z a.table.now)) (omega arith)
+pub loop-s-preserved : goal.loop-s-preserved
+loop-s-preserved c = all_more (λ k. shift_right c.args.z (get_or c.args.table.now k 0)) c.loop-s.s-index c.loop-s.invariant c.shift_right-right.ensures

@@ -3,6 +3,3 @@ use Rattle.profile.proofs.inner.columns.Goals as goal
 
 pub columns-requires : goal.columns-requires
 columns-requires c = (accepted-shape c.args.profile.now c.requires).right
-
-pub returns : goal.returns
-returns c = c.columns.ensures

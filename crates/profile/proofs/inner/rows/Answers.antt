@@ -3,6 +3,3 @@ use Rattle.profile.proofs.inner.rows.Goals as goal
 
 pub rows-requires : goal.rows-requires
 rows-requires c = (accepted-shape c.args.profile.now c.requires).right
-
-pub returns : goal.returns
-returns c = c.rows.ensures

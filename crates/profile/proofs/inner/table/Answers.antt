@@ -3,6 +3,3 @@ use Rattle.profile.proofs.inner.table.Goals as goal
 
 pub table-requires : goal.table-requires
 table-requires c = ((tests_passed c.args.profile.now c.requires.0).0, c.requires.1)
-
-pub returns : goal.returns
-returns c = c.table.ensures.same

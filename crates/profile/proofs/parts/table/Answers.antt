@@ -16,12 +16,6 @@ table_size-requires c =
     let shaped : Shape c.args.profile.now = shape_is c.args.profile.now c.requires.0 in
     shaped.right
 
-pub overflow_add-end : goal.overflow_add-end
-overflow_add-end c =
-    let shaped : Shape c.args.profile.now = shape_is c.args.profile.now c.requires.0 in
-    let inside : c.offset-start.result + c.table_size.result ≤ length c.args.profile.now = omega (arith, shaped.inside c.args.i c.requires.1) in
-    omega (arith, inside, c.well_formed)
-
 pub slice_bounds-result-end : goal.slice_bounds-result-end
 slice_bounds-result-end c =
     let shaped : Shape c.args.profile.now = shape_is c.args.profile.now c.requires.0 in

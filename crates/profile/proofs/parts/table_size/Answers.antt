@@ -1,13 +1,7 @@
 use Prim.Native.Nat.{◌*◌, ◌≤◌}
 use native.Mathlib.Nat.{mul-le-mul}
-use native.Mathlib.Omega.{arith}
 use Rattle.profile.specs.Record.{table_size}
 use Rattle.profile.proofs.parts.table_size.Goals as goal
-
-pub overflow_mul-result : goal.overflow_mul-result
-overflow_mul-result c =
-    let most : c.rows.result * c.columns.result ≤ 40 * 60 = mul-le-mul c.rows.ensures.2 c.columns.ensures.2 in
-    omega (arith, most)
 
 pub returns : goal.returns
 unfolding table_size

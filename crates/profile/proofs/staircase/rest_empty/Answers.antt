@@ -1,23 +1,20 @@
-use mathlib.Core.Path.{refl, ap, ◌∙◌}
-use Prim.Native.Nat.{ℕ}
+use mathlib.Core.Path.{◌≡◌, ◌∙◌, refl}
 use native.Mathlib.Omega.{arith}
-use borrow.Author.Rules.{rules}
-use Rattle.bits.specs.Ranges.{all_below}
-use Rattle.profile.specs.Steps.Walk.{empty_from}
+use Prim.Native.Nat.{◌+◌, ◌-◌}
+use lib.ListN.{length, take, drop}
 use Rattle.profile.proofs.Shape.{all_none, all_more}
+use Rattle.profile.proofs.Walk.{empty_stretch}
 use Rattle.profile.proofs.staircase.rest_empty.Goals as goal
 
-pub loop-j-init : goal.loop-j-init
-loop-j-init c = (search rules, all_none (empty_from c.args.table.now c.args.from))
+pub loop-e-init : goal.loop-e-init
+loop-e-init c = all_none _
 
-pub loop-j-preserved : goal.loop-j-preserved
-unfolding empty_from
-loop-j-preserved c =
-    let a = c.args in
-    let l = c.loop-j in
-    (search rules, all_more (empty_from a.table.now a.from) l.j l.invariant.1 refl)
+pub loop-e-preserved : goal.loop-e-preserved
+loop-e-preserved c = all_more _ c.loop-e.e-index c.loop-e.invariant refl
 
 pub returns : goal.returns
 returns c =
     let a = c.args in
-    c.loop-j.invariant.1 ∙ ap (λ (k : ℕ). all_below k (empty_from a.table.now a.from)) (omega arith)
+    let size : a.from + a.n - a.from ≡ a.n = omega arith in
+    let all : c.loop-e.e-index ≡ length (take (a.from + a.n - a.from) (drop a.from a.table.now)) = omega arith in
+    rw all at c.loop-e.invariant ∙ empty_stretch a.table.now a.from a.n _ size c.requires

@@ -1,12 +1,10 @@
 -- The loop's invariant: `empty` says whether every entry passed is empty.
 use mathlib.Core.Path.{◌≡◌}
-use Prim.Native.Nat.{◌-◌, ◌≤◌}
+use lib.Dec.{eqb}
+use lib.ListN.{get_or}
 use Rattle.bits.specs.Ranges.{all_below}
-use Rattle.profile.specs.Steps.Walk.{empty_from}
+use Rattle.profile.specs.Record.{empty}
 use Rattle.profile.proofs.staircase.rest_empty.Given as goal
 
-abbrev pub invariant-loop-j : goal.invariant-loop-j
-invariant-loop-j l = (l.j ≤ l.n) × (l.empty ≡ all_below l.j (empty_from l.table l.from))
-
-abbrev pub decreases-loop-j : goal.decreases-loop-j
-decreases-loop-j l = l.n - l.j
+abbrev pub invariant-loop-e : goal.invariant-loop-e
+invariant-loop-e l = l.empty ≡ all_below l.e-index (λ k. eqb (get_or l.e-items k 0) empty)

@@ -1,32 +1,6 @@
-use mathlib.Core.Path.{◌≡◌, sym, ◌∙◌}
-use mathlib.Core.Bool.{true}
-use Prim.Native.Nat.{ℕ}
-use native.Mathlib.Omega.{arith}
-use borrow.Author.Count.{below_more}
 use borrow.Author.Rules.{rules}
-use borrow.Author.Tests.{not-true, not-false}
 use Rattle.shelf.specs.Shelf.{rises}
-use Rattle.rules.proofs.Firsts.{first-at, first_end}
 use Rattle.rules.proofs.entries.first_fall.Goals as goal
 
-pub loop-k-init : goal.loop-k-init
-loop-k-init c = (search rules, λ j l. absurd (omega arith))
-
-pub returns-then-not-rises : goal.returns-then-not-rises
-returns-then-not-rises c =
-    let a = c.args in
-    let l = c.loop-k in
-    let here = c.rises in
-    first-at a.count (rises a.octets.now) l.k (search rules) l.invariant.1 (sym here.ensures ∙ not-true here.result c.if-not-rises.true-raw)
-
-pub loop-k-preserved : goal.loop-k-preserved
-loop-k-preserved c =
-    let a = c.args in
-    let l = c.loop-k in
-    let here = c.rises in
-    (search rules, below_more (λ (j : ℕ). rises a.octets.now j ≡ true) l.k l.invariant.1 (sym here.ensures ∙ not-false here.result c.if-not-rises.false-raw))
-
 pub returns : goal.returns
-returns c =
-    let a = c.args in
-    first_end a.count (rises a.octets.now) (λ j h. c.loop-k.invariant.1 j (omega arith))
+returns c = c.first_not.ensures (rises c.args.octets.now) (λ k r l q. search rules)

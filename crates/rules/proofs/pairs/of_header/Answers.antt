@@ -1,44 +1,29 @@
 use Rattle.profile.proofs.Shape.{rows_is, header_is}
-use Rattle.rules.proofs.Records.{front-passed, header-range, header-first, header-last, columns_of, size_of}
-use Rattle.rules.proofs.Places.{header-entry}
+use Rattle.rules.proofs.Records.{front-passed, header-first, header-last, columns_of, size_of}
 use mathlib.Core.Path.{◌≡◌, ◌∙◌}
 use native.Mathlib.Omega.{arith}
+use Rattle.std.specs.Prelude.{Some}
+use Rattle.rules.specs.Faults.{wrong}
 use Rattle.bits.specs.Numbers.{answered}
 use Rattle.profile.specs.Record.{kb, m, x, kind, t}
 use Rattle.rules.specs.Rules.{header_rules}
 use Rattle.rules.proofs.pairs.of_header.Goals as goal
 
-pub header_at-requires : goal.header_at-requires
+pub returns-in-Some : goal.returns-in-Some
 unfolding kb m x kind t
-header_at-requires c =
+returns-in-Some c =
     let R = c.args.octets.now in
-    let is : c.header_rule-rule.result ≡ answered (header_rules (kb R) (m R) (x R) (kind R) (t R)) = cc in
-    header-range R c.header_rule-rule.result is c.if-rule-ne-NONE.true
-
-pub returns-then-rule-ne-NONE : goal.returns-then-rule-ne-NONE
-unfolding kb m x kind t
-returns-then-rule-ne-NONE c =
-    let a = c.args in
-    let R = a.octets.now in
-    let is : c.header_rule-rule.result ≡ answered (header_rules (kb R) (m R) (x R) (kind R) (t R)) = cc in
-    let rule = c.header_rule-rule.result in
-    let range = header-range R rule is c.if-rule-ne-NONE.true in
-    let none = header-entry R rule range.0 range.1 in
-    record {
-      first = header-first R c.requires rule is c.if-rule-ne-NONE.true;
-      table_is = none.0;
-      row_is = none.1;
-      column_is = none.2;
-      at_is = c.header_at.ensures.0 R;
-      inside = omega (arith, c.header_at.ensures.1, c.requires);
-    }
+    let f = c.in-Some.ensures in
+    let told = f.told R in
+    let first = header-first R c.requires (wrong (Some c.in-Some.fault)).rule (cc (f.first)) (λ z. omega (arith, f.some, z)) in
+    record { first = first; table_is = told.0; row_is = told.1; column_is = told.2; at_is = told.3; inside = omega (arith, f.low, c.requires) }
 
 pub sizes_of-requires : goal.sizes_of-requires
 unfolding kb m x kind t
 sizes_of-requires c =
     let a = c.args in
     let R = a.octets.now in
-    let none : answered (header_rules (kb R) (m R) (x R) (kind R) (t R)) ≡ 0 = cc in
+    let none : answered (header_rules (kb R) (m R) (x R) (kind R) (t R)) ≡ 0 = cc (c.in_default.ensures) in
     let h = header_is R (front-passed R c.requires none) in
     (omega (arith, h.kb_high), omega (arith, h.rows_high, rows_is R))
 
@@ -47,7 +32,7 @@ unfolding kb m x kind t
 of_zs-requires c =
     let a = c.args in
     let R = a.octets.now in
-    let none : answered (header_rules (kb R) (m R) (x R) (kind R) (t R)) ≡ 0 = cc in
+    let none : answered (header_rules (kb R) (m R) (x R) (kind R) (t R)) ≡ 0 = cc (c.in_default.ensures) in
     let n = c.sizes_of.ensures in
     let kb_is = c.number_at-kb.ensures.0 in
     let m_is = c.number_at-m.ensures.0 in
@@ -68,7 +53,7 @@ unfolding kb m x kind t
 returns c =
     let a = c.args in
     let R = a.octets.now in
-    let none : answered (header_rules (kb R) (m R) (x R) (kind R) (t R)) ≡ 0 = cc in
+    let none : answered (header_rules (kb R) (m R) (x R) (kind R) (t R)) ≡ 0 = cc (c.in_default.ensures) in
     let told = c.of_zs.ensures in
     record {
       first = told.first ∙ header-last R c.requires none;

@@ -8,7 +8,7 @@ use Rattle.profile.proofs.Shape.{header_is}
 use Rattle.bits.proofs.Ranges.{all-at}
 use Rattle.rules.specs.Rules.{or_else, first_not, linked}
 use Rattle.rules.specs.Places.{place_of, table_row, table_column, record_table, record_row, record_column, record_at}
-use Rattle.rules.proofs.Firsts.{first-fails, first-before, first-some-not, first-all}
+use Rattle.rules.proofs.Firsts.{first-fails, first-before, first-some-not}
 use Rattle.rules.proofs.pairs.of_offsets.Goals as goal
 
 pub returns-then-i-eq0 : goal.returns-then-i-eq0
@@ -17,42 +17,34 @@ returns-then-i-eq0 c =
     let a = c.args in
     let R = a.octets.now in
     let first : linked R 0 ≡ false =
-    ap (linked R) (sym c.if-i-eq0.true) ∙ first-fails a.s.t (linked R) c.first_loose-i.ensures c.if-i-t.true in
+    ap (linked R) (sym c.if-i-eq0.true) ∙ first-fails a.s.t (linked R) c.in-Some.ensures.1 c.in-Some.ensures.0 in
+    rw c.of_whole.ensures (
     record {
       first = rw first;
       table_is = refl;
       row_is = refl;
       column_is = refl;
       at_is = refl;
-      inside = omega (arith, c.requires.pairs.room, c.if-i-t.true);
+      inside = omega (arith, c.requires.pairs.room, c.in-Some.ensures.0);
     }
+    )
 
-pub returns-then-i-t : goal.returns-then-i-t
+pub returns-in-Some : goal.returns-in-Some
 unfolding answered or_else place_of table_row table_column record_table record_row record_column record_at
-returns-then-i-t c =
+returns-in-Some c =
     let a = c.args in
     let R = a.octets.now in
     let n = c.requires.pairs.sizes in
-    let loose = c.first_loose-i in
-    let first : linked R 0 ≡ true = first-before a.s.t (linked R) loose.ensures 0 (omega arith) (omega arith) in
-    let some : all_below (t R) (linked R) ≡ false = rw (← n.t_is) (first-some-not a.s.t (linked R) loose.ensures c.if-i-t.true) in
-    let is : loose.result ≡ first_not (t R) (linked R) = rw (← n.t_is) loose.ensures in
+    let first : linked R 0 ≡ true = first-before a.s.t (linked R) c.in-Some.ensures.1 0 (omega arith) (omega (arith, c.in-Some.ensures.0)) in
+    let some : all_below (t R) (linked R) ≡ false = rw (← n.t_is) (first-some-not a.s.t (linked R) c.in-Some.ensures.1 c.in-Some.ensures.0) in
+    let is : c.in-Some.i ≡ first_not (t R) (linked R) = rw (← n.t_is) c.in-Some.ensures.1 in
     record {
       first = rw (first, some);
       table_is = is;
       row_is = refl;
       column_is = refl;
       at_is = omega (arith, is);
-      inside = omega (arith, c.requires.pairs.room, c.if-i-t.true);
-    }
-
-pub of_end-requires : goal.of_end-requires
-of_end-requires c =
-    let a = c.args in
-    let R = a.octets.now in
-    record {
-      zs = c.requires;
-      links = rw (← c.requires.pairs.sizes.t_is) (first-all a.s.t (linked R) c.first_loose-i.ensures (omega arith));
+      inside = omega (arith, c.requires.pairs.room, c.in-Some.ensures.0);
     }
 
 pub returns : goal.returns
@@ -61,7 +53,7 @@ returns c =
     let a = c.args in
     let R = a.octets.now in
     let n = c.requires.pairs.sizes in
-    let all : all_below (t R) (linked R) ≡ true = rw (← n.t_is) (first-all a.s.t (linked R) c.first_loose-i.ensures (omega arith)) in
+    let all : all_below (t R) (linked R) ≡ true = rw (← n.t_is) c.in_default.ensures in
     let first : linked R 0 ≡ true = all-at (t R) (linked R) all 0 (omega (arith, (header_is R n.front).t_low)) in
     let told = c.of_end.ensures in
     record {

@@ -9,7 +9,7 @@ use Rattle.bits.specs.Ranges.{all_below, within}
 use Rattle.profile.specs.Record.{t, z, rises}
 use Rattle.rules.specs.Rules.{or_else, first_not}
 use Rattle.rules.specs.Places.{place_of, table_row, table_column, record_table, record_row, record_column, record_at}
-use Rattle.rules.proofs.Firsts.{first-some-not, first-all}
+use Rattle.rules.proofs.Firsts.{first-some-not}
 use Rattle.rules.proofs.Records.{small}
 use Rattle.rules.proofs.pairs.of_zs.Goals as goal
 
@@ -30,6 +30,7 @@ unfolding answered or_else place_of table_row table_column record_table record_r
 returns-then-size-t c =
     let a = c.args in
     let R = a.octets.now in
+    rw c.of_whole.ensures (
     record {
       first = rw (lt-ltb (length R) (10 + 4 * t R) (omega (arith, c.requires.t_is)));
       table_is = refl;
@@ -38,56 +39,45 @@ returns-then-size-t c =
       at_is = refl;
       inside = omega arith;
     }
+    )
 
-pub returns-then-out-t : goal.returns-then-out-t
+pub returns-in-Some : goal.returns-in-Some
 unfolding answered or_else place_of table_row table_column record_table record_row record_column record_at
-returns-then-out-t c =
+returns-in-Some c =
     let a = c.args in
     let R = a.octets.now in
     let n = c.requires in
     let room = le-ltb (length R) (10 + 4 * t R) (omega (arith, n.t_is)) in
     let ranges : ℕ → Bool = λ i. within 1 81 (z R i) in
-    let some : all_below (t R) ranges ≡ false = rw (← n.t_is) (first-some-not a.s.t ranges c.first_out-out.ensures c.if-out-t.true) in
-    let is : c.first_out-out.result ≡ first_not (t R) ranges = rw (← n.t_is) c.first_out-out.ensures in
+    let some : all_below (t R) ranges ≡ false = rw (← n.t_is) (first-some-not a.s.t ranges c.in-Some.ensures.1 c.in-Some.ensures.0) in
+    let is : c.in-Some.out ≡ first_not (t R) ranges = rw (← n.t_is) c.in-Some.ensures.1 in
     record {
       first = rw (room, some);
       table_is = is;
       row_is = refl;
       column_is = refl;
       at_is = omega (arith, is);
-      inside = omega arith;
+      inside = omega (arith, c.in-Some.ensures.0);
     }
 
-pub returns-then-fallen-t : goal.returns-then-fallen-t
+pub returns-in-Some-first_fall : goal.returns-in-Some-first_fall
 unfolding answered or_else place_of table_row table_column record_table record_row record_column record_at
-returns-then-fallen-t c =
+returns-in-Some-first_fall c =
     let a = c.args in
     let R = a.octets.now in
     let n = c.requires in
     let room = le-ltb (length R) (10 + 4 * t R) (omega (arith, n.t_is)) in
     let ranges : ℕ → Bool = λ i. within 1 81 (z R i) in
-    let all : all_below (t R) ranges ≡ true = rw (← n.t_is) (first-all a.s.t ranges c.first_out-out.ensures (omega arith)) in
-    let some : all_below (t R) (rises R) ≡ false = rw (← n.t_is) (first-some-not a.s.t (rises R) c.first_fall-fallen.ensures c.if-fallen-t.true) in
-    let is : c.first_fall-fallen.result ≡ first_not (t R) (rises R) = rw (← n.t_is) c.first_fall-fallen.ensures in
+    let all : all_below (t R) ranges ≡ true = rw (← n.t_is) c.in_default.ensures in
+    let some : all_below (t R) (rises R) ≡ false = rw (← n.t_is) (first-some-not a.s.t (rises R) c.in-Some-first_fall.ensures.1 c.in-Some-first_fall.ensures.0) in
+    let is : c.in-Some-first_fall.fallen ≡ first_not (t R) (rises R) = rw (← n.t_is) c.in-Some-first_fall.ensures.1 in
     record {
       first = rw (room, all, some);
       table_is = is;
       row_is = refl;
       column_is = refl;
       at_is = omega (arith, is);
-      inside = omega arith;
-    }
-
-pub of_offsets-requires : goal.of_offsets-requires
-of_offsets-requires c =
-    let a = c.args in
-    let R = a.octets.now in
-    let n = c.requires in
-    let ranges : ℕ → Bool = λ i. within 1 81 (z R i) in
-    record {
-      pairs = record { sizes = n; room = omega arith };
-      range = rw (← n.t_is) (first-all a.s.t ranges c.first_out-out.ensures (omega arith));
-      rising = rw (← n.t_is) (first-all a.s.t (rises R) c.first_fall-fallen.ensures (omega arith));
+      inside = omega (arith, c.in-Some-first_fall.ensures.0);
     }
 
 pub returns : goal.returns
@@ -98,8 +88,8 @@ returns c =
     let n = c.requires in
     let room = le-ltb (length R) (10 + 4 * t R) (omega (arith, n.t_is)) in
     let ranges : ℕ → Bool = λ i. within 1 81 (z R i) in
-    let all : all_below (t R) ranges ≡ true = rw (← n.t_is) (first-all a.s.t ranges c.first_out-out.ensures (omega arith)) in
-    let up : all_below (t R) (rises R) ≡ true = rw (← n.t_is) (first-all a.s.t (rises R) c.first_fall-fallen.ensures (omega arith)) in
+    let all : all_below (t R) ranges ≡ true = rw (← n.t_is) c.in_default.ensures in
+    let up : all_below (t R) (rises R) ≡ true = rw (← n.t_is) c.in_default-first_fall.ensures in
     let told = c.of_offsets.ensures in
     record {
       first = rw (room, all, up) told.first;

@@ -10,49 +10,38 @@ use Rattle.rules.proofs.Places.{row-none, row-second, row-middle}
 use Rattle.rules.proofs.Columns.{between_none, between-two, between-one, middle-right, middle_wrong, top_at, row_at}
 use Rattle.rules.proofs.stairs.of_between.Goals as goal
 
-pub returns-then-middle-m : goal.returns-then-middle-m
+pub returns-in_default : goal.returns-in_default
 unfolding answered place_of table_row table_column
-returns-then-middle-m c =
+returns-in_default c =
     let a = c.args in
     let T = a.table.now in
-    let one = c.next_filled-middle in
+    let none = c.in_default.ensures in
+    let m = c.requires.m_low in
     λ x. record {
-      first = rw (between_none a.m (column T a.columns a.kb) one.result one.ensures (omega arith));
-      row_is = row-none T a.kb a.m x a.columns one.result one.ensures (omega arith);
+      first = rw (between_none a.m (column T a.columns a.kb) (a.m - 1) none (omega arith));
+      row_is = row-none T a.kb a.m x a.columns (a.m - 1) none (omega arith);
       column_is = refl;
       inside = omega (arith, row-stands c.requires 1 (omega (arith, c.requires.m_low)));
+      late = omega arith;
     }
 
-pub returns-then-second-m : goal.returns-then-second-m
+pub returns-in-Some-next_filled : goal.returns-in-Some-next_filled
 unfolding answered place_of table_row table_column
-returns-then-second-m c =
+returns-in-Some-next_filled c =
     let a = c.args in
     let T = a.table.now in
     let C = column T a.columns a.kb in
-    let one = c.next_filled-middle in
-    let two = c.next_filled-second in
+    let one = c.in-Some.ensures in
+    let two = c.in-Some-next_filled.ensures in
+    let middle = c.in-Some.middle in
+    let second = c.in-Some-next_filled.second in
     λ x. record {
-      first = rw (between-two a.m C one.result two.result one.ensures (omega arith) two.ensures (omega arith));
-      row_is = row-second T a.kb a.m x a.columns one.result two.result one.ensures (omega arith) two.ensures;
+      first = rw (between-two a.m C middle second one.0 one.1 two.0 two.1);
+      row_is = row-second T a.kb a.m x a.columns middle second one.0 one.1 two.0;
       column_is = refl;
-      inside = omega (arith, row-stands c.requires two.result (omega arith));
+      inside = omega (arith, row-stands c.requires second (omega (arith, two.1)));
+      late = omega arith;
     }
-
-pub overflow_mul-last : goal.overflow_mul-last
-overflow_mul-last c =
-    omega (arith, row-stands c.requires (c.args.m - 1) (omega arith))
-
-pub overflow_add-last : goal.overflow_add-last
-overflow_add-last c =
-    omega (arith, row-stands c.requires (c.args.m - 1) (omega arith))
-
-pub bounds-table-kb : goal.bounds-table-kb
-bounds-table-kb c =
-    omega (arith, row-stands c.requires (0) (omega arith))
-
-pub bounds-table-last : goal.bounds-table-last
-bounds-table-last c =
-    omega (arith, row-stands c.requires (c.args.m - 1) (omega arith))
 
 pub returns-then-table-kb : goal.returns-then-table-kb
 unfolding answered place_of table_row table_column
@@ -60,15 +49,18 @@ returns-then-table-kb c =
     let a = c.args in
     let T = a.table.now in
     let C = column T a.columns a.kb in
-    let one = c.next_filled-middle in
-    let two = c.next_filled-second in
-    let single = between-one a.m C one.result two.result one.ensures (omega arith) two.ensures (omega arith) in
+    let one = c.in-Some.ensures in
+    let two = c.in_default-next_filled.ensures in
+    let middle = c.in-Some.middle in
+    let single = between-one a.m C middle (a.m - 1) one.0 one.1 two (omega (arith, one.1)) in
     let unequal = ne_eqb (C 0) (C (a.m - 1)) (λ e. c.if-table-kb.true (sym (top_at T a.kb a.columns) ∙ e ∙ row_at T a.kb a.columns (a.m - 1))) in
-    λ x. record { first = rw (single, unequal); row_is = refl; column_is = refl; inside = omega (arith, row-stands c.requires (a.m - 1) (omega arith)) }
-
-pub first_entry-requires : goal.first_entry-requires
-first_entry-requires c =
-    omega (arith, row-stands c.requires c.next_filled-middle.result (omega arith))
+    λ x. record {
+      first = rw (single, unequal);
+      row_is = refl;
+      column_is = refl;
+      inside = omega (arith, row-stands c.requires (a.m - 1) (omega (arith, one.1)));
+      late = omega arith;
+    }
 
 pub returns-then-first_entry-ne-MIDDLE : goal.returns-then-first_entry-ne-MIDDLE
 unfolding answered place_of table_row table_column
@@ -76,28 +68,31 @@ returns-then-first_entry-ne-MIDDLE c =
     let a = c.args in
     let T = a.table.now in
     let C = column T a.columns a.kb in
-    let one = c.next_filled-middle in
-    let two = c.next_filled-second in
-    let single = between-one a.m C one.result two.result one.ensures (omega arith) two.ensures (omega arith) in
+    let one = c.in-Some.ensures in
+    let two = c.in_default-next_filled.ensures in
+    let middle = c.in-Some.middle in
+    let single = between-one a.m C middle (a.m - 1) one.0 one.1 two (omega (arith, one.1)) in
     let equal = eq-eqb (C 0) (C (a.m - 1)) (top_at T a.kb a.columns ∙ c.if-table-kb.false ∙ sym (row_at T a.kb a.columns (a.m - 1))) in
-    let wrong = middle_wrong a.m C one.result one.ensures (omega arith) (λ e. c.if-first_entry-ne-MIDDLE.true (c.first_entry.ensures ∙ e)) in
+    let wrong = middle_wrong a.m C middle one.0 one.1 (λ e. c.if-first_entry-ne-MIDDLE.true (c.first_entry.ensures ∙ e)) in
     λ x. record {
       first = rw (single, equal, wrong);
-      row_is = row-middle T a.kb a.m x a.columns one.result one.ensures;
+      row_is = row-middle T a.kb a.m x a.columns middle one.0;
       column_is = refl;
-      inside = omega (arith, row-stands c.requires one.result (omega arith));
+      inside = omega (arith, row-stands c.requires middle (omega (arith, one.1)));
+      late = omega arith;
     }
 
 pub returns : goal.returns
-unfolding answered place_of table_row table_column
+unfolding answered
 returns c =
     let a = c.args in
     let T = a.table.now in
     let C = column T a.columns a.kb in
-    let one = c.next_filled-middle in
-    let two = c.next_filled-second in
-    let single = between-one a.m C one.result two.result one.ensures (omega arith) two.ensures (omega arith) in
+    let one = c.in-Some.ensures in
+    let two = c.in_default-next_filled.ensures in
+    let middle = c.in-Some.middle in
+    let single = between-one a.m C middle (a.m - 1) one.0 one.1 two (omega (arith, one.1)) in
     let equal = eq-eqb (C 0) (C (a.m - 1)) (top_at T a.kb a.columns ∙ c.if-table-kb.false ∙ sym (row_at T a.kb a.columns (a.m - 1))) in
     let right =
-    middle-right a.m C one.result two.result one.ensures (omega arith) two.ensures (omega arith) (sym c.first_entry.ensures ∙ c.if-first_entry-ne-MIDDLE.false) in
-    λ x. record { first = rw (single, equal, right); row_is = refl; column_is = refl; inside = omega (arith, row-stands c.requires 0 (omega arith)) }
+    middle-right a.m C middle (a.m - 1) one.0 one.1 two (omega (arith, one.1)) (sym c.first_entry.ensures ∙ c.if-first_entry-ne-MIDDLE.false) in
+    λ x. rw (single, equal, right)

@@ -9,10 +9,6 @@ use Rattle.rules.specs.Places.{place_of, table_row, table_column}
 use Rattle.rules.proofs.Columns.{top_at, row_at}
 use Rattle.rules.proofs.stairs.of_first.Goals as goal
 
-pub bounds-table-kb : goal.bounds-table-kb
-bounds-table-kb c =
-    omega (arith, row-stands c.requires 0 (omega (arith, c.requires.m_low)), c.requires.m_low)
-
 pub returns-then-table-kb : goal.returns-then-table-kb
 unfolding answered place_of table_row table_column
 returns-then-table-kb c =
@@ -24,19 +20,8 @@ returns-then-table-kb c =
       row_is = refl;
       column_is = refl;
       inside = omega (arith, row-stands c.requires 0 (omega (arith, c.requires.m_low)), c.requires.m_low);
+      late = omega arith;
     }
-
-pub overflow_mul-last : goal.overflow_mul-last
-overflow_mul-last c =
-    omega (arith, row-stands c.requires (c.args.m - 1) (omega (arith, c.requires.m_low)), c.requires.m_low)
-
-pub overflow_add-last : goal.overflow_add-last
-overflow_add-last c =
-    omega (arith, row-stands c.requires (c.args.m - 1) (omega (arith, c.requires.m_low)), c.requires.m_low)
-
-pub bounds-table-last : goal.bounds-table-last
-bounds-table-last c =
-    omega (arith, row-stands c.requires (c.args.m - 1) (omega (arith, c.requires.m_low)), c.requires.m_low)
 
 pub returns-then-table-last : goal.returns-then-table-last
 unfolding answered place_of table_row table_column
@@ -50,6 +35,7 @@ returns-then-table-last c =
       row_is = refl;
       column_is = refl;
       inside = omega (arith, row-stands c.requires (a.m - 1) (omega (arith, c.requires.m_low)), c.requires.m_low);
+      late = omega arith;
     }
 
 pub returns : goal.returns
@@ -60,5 +46,4 @@ returns c =
     let C = column T a.columns a.kb in
     let top = is-filled (C 0) (λ e. c.if-table-kb.false (sym (top_at T a.kb a.columns) ∙ e)) in
     let last = is-filled (C (a.m - 1)) (λ e. c.if-table-last.false (sym (row_at T a.kb a.columns (a.m - 1)) ∙ e)) in
-    λ x. let spot = c.of_between.ensures x in
-    record { first = rw (top, last) spot.first; row_is = spot.row_is; column_is = spot.column_is; inside = spot.inside }
+    λ x. rw (top, last) (c.of_between.ensures x)

@@ -1,29 +1,12 @@
-use mathlib.Core.Path.{sym, ◌∙◌}
-use Rattle.rules.proofs.Staircase.{table-first, table-later}
+use Rattle.rules.proofs.Staircase.{table-spotted, table-unspotted}
 use Rattle.rules.proofs.stairs.of_table.Goals as goal
 
-pub returns-then-spot-ne-NONE : goal.returns-then-spot-ne-NONE
-returns-then-spot-ne-NONE c =
+pub returns-in-Some : goal.returns-in-Some
+returns-in-Some c =
     let a = c.args in
-    let T = a.table.now in
-    let spot = c.of_first-spot in
-    let told = spot.ensures a.x in
-    record {
-      first = table-first T a.kb a.m a.x a.columns spot.result.rule told.first c.if-spot-ne-NONE.true;
-      row_is = told.row_is;
-      column_is = told.column_is;
-      inside = told.inside;
-    }
+    table-spotted a.table.now a.kb a.m a.x a.columns c.in-Some.spot (c.in-Some.ensures a.x)
 
 pub returns : goal.returns
 returns c =
     let a = c.args in
-    let T = a.table.now in
-    let spot = c.of_first-spot in
-    let none = sym (spot.ensures a.x).first ∙ c.if-spot-ne-NONE.false in
-    record {
-      first = table-later T a.kb a.m a.x a.columns c.of_columns.result.rule none c.of_columns.ensures.first;
-      row_is = c.of_columns.ensures.row_is;
-      column_is = c.of_columns.ensures.column_is;
-      inside = c.of_columns.ensures.inside;
-    }
+    table-unspotted a.table.now a.kb a.m a.x a.columns c.of_columns.result (c.in_default.ensures a.x) c.of_columns.ensures

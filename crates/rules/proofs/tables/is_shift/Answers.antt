@@ -1,16 +1,11 @@
-use lib.ListN.{get_or}
 use borrow.Author.Tests.{eq-eqb, ne_eqb}
-use Rattle.profile.specs.Record.{empty, shift_right}
+use Rattle.profile.specs.Record.{shift_right}
 use Rattle.rules.proofs.tables.is_shift.Goals as goal
 
-pub returns-then-shift : goal.returns-then-shift
+pub returns-then-shift-eq-EMPTY : goal.returns-then-shift-eq-EMPTY
 unfolding shift_right
-returns-then-shift c =
-    let a = c.args in
-    rw (eq-eqb (get_or a.table.now a.k 0) empty c.if-shift.true)
+returns-then-shift-eq-EMPTY c = rw (eq-eqb c.args.shift 255 c.if-shift-eq-EMPTY.true)
 
-pub returns : goal.returns
+pub returns-else-shift-eq-EMPTY : goal.returns-else-shift-eq-EMPTY
 unfolding shift_right
-returns c =
-    let a = c.args in
-    rw (ne_eqb (get_or a.table.now a.k 0) empty c.if-shift.false) (cc)
+returns-else-shift-eq-EMPTY c = rw (ne_eqb c.args.shift 255 c.if-shift-eq-EMPTY.false) (cc)

@@ -25,7 +25,9 @@ returns-then-size-end c =
     let wrong : ends_right R ≡ false = ends_wrong R (λ e. c.if-size-end.true (cc (e, c.offset_due-end.ensures, n.t_is, n.size_is))) in
     let at : c.smaller.result ≡ smaller (length R) (offset_due R (t R)) =
     cc (c.smaller.ensures.0, c.offset_due-end.ensures, n.t_is, n.size_is) in
+    rw c.of_whole.ensures (
     record { first = rw wrong; table_is = refl; row_is = refl; column_is = refl; at_is = at; inside = omega (arith, c.smaller.ensures.1) }
+    )
 
 pub of_shifts-requires : goal.of_shifts-requires
 of_shifts-requires c =

@@ -1,17 +1,17 @@
 use mathlib.Core.Path.{◌≡◌}
-use mathlib.Core.Bool.{Bool, true, false}
-use Prim.Native.Nat.{ℕ, ◌+◌, ◌*◌, ◌/◌, ◌%◌, ◌≤◌}
+use mathlib.Core.Bool.{true, false}
+use Prim.Native.Nat.{◌/◌, ◌%◌}
 use native.Mathlib.Nat.{div-add-mod'}
 use native.Mathlib.Omega.{arith}
-use lib.ListN.{get_or}
+use Rattle.std.specs.Prelude.{Some}
+use Rattle.rules.specs.Faults.{wrong}
 use Rattle.bits.specs.Numbers.{answered}
 use Rattle.bits.specs.Ranges.{all_below}
-use Rattle.profile.specs.Record.{t, z, table, shift_right, table_right}
+use Rattle.profile.specs.Record.{t, table_right}
 use Rattle.rules.specs.Rules.{or_else, first_not}
-use Rattle.rules.specs.Places.{entry_over}
-use Rattle.rules.proofs.Firsts.{first-most, first-some-not, first-all}
+use Rattle.rules.proofs.Firsts.{first-some-not}
 use Rattle.rules.proofs.Records.{small}
-use Rattle.rules.proofs.Places.{told-entry, over-table, over-row, over-column, over-is}
+use Rattle.rules.proofs.Places.{told-entry, over-table, over-row, over-column}
 use Rattle.rules.proofs.tables.of_shifts.Goals as goal
 
 pub nonzero_div-k : goal.nonzero_div-k
@@ -24,41 +24,25 @@ nonzero_rem-k c =
 
 pub told-requires : goal.told-requires
 told-requires c =
-    let placed : let columns' = c.args.s.columns in
-    let k = c.over_in-k.result in k / columns' * columns' + k % columns' ≤ c.args.s.size = let a = c.args in
-    let R = a.octets.now in
-    let i = c.first_table_over-i.result in
-    let right : ℕ → Bool = λ k. shift_right (z R i) (get_or (table R i) k 0) in
-    let k = c.over_in-k.result in
-    omega (arith, div-add-mod' k a.s.columns, first-most a.s.size right c.over_in-k.ensures) in
-    let a = c.args in
-    let R = a.octets.now in
-    let few = small R c.requires.sizes in
-    (few.few, few.short, omega (arith, few.few, c.if-i-t.true), placed)
+    let few = small c.args.octets.now c.requires.sizes in
+    let f = c.in-Some.ensures in
+    (few.few, few.short, omega (arith, few.few, f.0), omega (arith, div-add-mod' c.in-Some.k c.args.s.columns, f.2.0, c.requires.sizes.size_is))
 
-pub returns-then-i-t : goal.returns-then-i-t
+pub returns-in-Some : goal.returns-in-Some
 unfolding answered or_else
-returns-then-i-t c =
-    let placed : let columns' = c.args.s.columns in
-    let k = c.over_in-k.result in k / columns' * columns' + k % columns' ≤ c.args.s.size = let a = c.args in
-    let R = a.octets.now in
-    let i = c.first_table_over-i.result in
-    let right : ℕ → Bool = λ k. shift_right (z R i) (get_or (table R i) k 0) in
-    let k = c.over_in-k.result in
-    omega (arith, div-add-mod' k a.s.columns, first-most a.s.size right c.over_in-k.ensures) in
+returns-in-Some c =
     let a = c.args in
     let R = a.octets.now in
     let n = c.requires.sizes in
-    let first = c.first_table_over-i in
-    let i = first.result in
-    let l = c.if-i-t.true in
-    let some : all_below (t R) (table_right R) ≡ false = rw (← n.t_is) (first-some-not a.s.t (table_right R) first.ensures l) in
-    let is : i ≡ first_not (t R) (table_right R) = rw (← n.t_is) first.ensures in
-    let k = c.over_in-k.result in
-    let over : k ≡ entry_over R i = over-is R i k (rw (← n.size_is) c.over_in-k.ensures) in
+    let f = c.in-Some.ensures in
+    let i = c.in-Some.i in
+    let k = c.in-Some.k in
+    let some : all_below (t R) (table_right R) ≡ false = rw (← n.t_is) (first-some-not a.s.t (table_right R) f.1 f.0) in
+    let is : i ≡ first_not (t R) (table_right R) = rw (← n.t_is) f.1 in
+    let placed = div-add-mod' k a.s.columns in
     let told =
-    told-entry R n c.requires.shape 15 i (k / a.s.columns) (k % a.s.columns) c.told.result c.told.ensures (omega arith) l placed
-    (over-table R i is) (cc (over, n.columns_is, over-row R i is)) (cc (over, n.columns_is, over-column R i is)) in
+    told-entry R n c.requires.shape 15 i (k / a.s.columns) (k % a.s.columns) (wrong (Some c.told.result)) c.told.ensures (omega arith) f.0
+    (omega (arith, placed, f.2.0, n.size_is)) (over-table R i is) (cc (f.2.1, n.columns_is, over-row R i is)) (cc (f.2.1, n.columns_is, over-column R i is)) in
     record {
       first = rw some told.first;
       table_is = told.table_is;
@@ -75,7 +59,7 @@ returns c =
     let R = a.octets.now in
     let n = c.requires.sizes in
     let all : all_below (t R) (table_right R) ≡ true =
-    rw (← n.t_is) (first-all a.s.t (table_right R) c.first_table_over-i.ensures (omega arith)) in
+    rw (← n.t_is) c.in_default.ensures in
     let told = c.of_stairs.ensures in
     record {
       first = rw all told.first;

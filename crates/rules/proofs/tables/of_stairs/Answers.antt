@@ -1,61 +1,51 @@
 use mathlib.Core.Path.{◌≡◌, refl, sym, ap, ◌∙◌}
 use mathlib.Core.Bool.{true, false}
-use Prim.Native.Nat.{◌≤◌}
+use mathlib.Core.List.{List}
+use Prim.Native.Nat.{ℕ, ◌*◌}
+use Rattle.rules.specs.declared.pairs.Sizes.{Sizes}
+use Rattle.rules.specs.Steps.Sizes.{SizesOf}
 use native.Mathlib.Omega.{arith}
-use lib.ListN.{length}
+use Rattle.std.specs.Prelude.{Some}
+use Rattle.rules.specs.Faults.{record_number, wrong}
 use Rattle.bits.specs.Ranges.{all_below}
-use Rattle.profile.specs.Record.{kb, m, x, t, columns, table}
-use Rattle.rules.specs.Rules.{first_not, table_rule, stairs}
+use Rattle.profile.specs.Record.{t, columns}
+use Rattle.rules.specs.Rules.{first_not, stairs}
 use Rattle.rules.specs.Places.{place_of, table_row, table_column, record_table, record_row, record_column, record_at}
-use Rattle.rules.proofs.Firsts.{first-some-not, first-all}
-use Rattle.rules.proofs.Records.{small, table-length, stair_none, stair_some, stair_range}
+use Rattle.rules.proofs.Firsts.{first-some-not}
+use Rattle.rules.proofs.Records.{small, table-length, stair_none, stair_some}
 use Rattle.rules.proofs.Places.{told-entry, stair-table, stair-row, stair-column}
 use Rattle.rules.proofs.tables.of_stairs.Goals as goal
 
-pub of_table-spot-requires : goal.of_table-spot-requires
-of_table-spot-requires c =
-    let a = c.args in
-    let R = a.octets.now in
-    let n = c.requires.sizes in
-    rw (n.kb_is, n.m_is, n.x_is, n.columns_is) c.table.ensures.whole
+-- the columns of the numbers are those of the record
+cell : (R : List ℕ) {s : Sizes} → SizesOf R s → (row : ℕ) → row * s.columns ≡ row * columns R
+cell R n row = ap (λ (k : ℕ). row * k) n.columns_is
 
 pub told-requires : goal.told-requires
 told-requires c =
-    let a = c.args in
-    let R = a.octets.now in
+    let R = c.args.octets.now in
     let n = c.requires.sizes in
-    let i = c.first_no_stairs-i.result in
+    let f = c.in-Some.ensures in
     let few = small R n in
-    let size = table-length R n c.requires.shape i c.if-i-t.true in
-    let same = ap length c.table.ensures.same in
-    (few.few, few.short, omega (arith, few.few, c.if-i-t.true), omega (arith, c.of_table-spot.ensures.inside, same, size))
+    let size = table-length R n c.requires.shape c.in-Some.i f.0 in
+    (few.few, few.short, omega (arith, few.few, f.0), omega (arith, f.2.inside, size, n.columns_is, cell R n c.in-Some.spot.row))
 
-pub returns-then-i-t : goal.returns-then-i-t
-returns-then-i-t c =
+pub returns-in-Some : goal.returns-in-Some
+returns-in-Some c =
     let a = c.args in
     let R = a.octets.now in
     let n = c.requires.sizes in
-    let first = c.first_no_stairs-i in
-    let i = first.result in
-    let l = c.if-i-t.true in
-    let table_of = c.table.ensures.same in
-    let spot = c.of_table-spot in
-    let is : i ≡ first_not (t R) (stairs R) = rw (← n.t_is) first.ensures in
-    let some : all_below (t R) (stairs R) ≡ false = rw (← n.t_is) (first-some-not a.s.t (stairs R) first.ensures l) in
-    let same : spot.result.rule ≡ table_rule (table R i) (kb R) (m R) (x R) (columns R) =
-    cc (spot.ensures.first, table_of, n.kb_is, n.m_is, n.x_is, n.columns_is) in
-    let size = table-length R n c.requires.shape i l in
-    let rule = spot.result.rule in
-    let late : 16 ≤ rule = omega (arith, same, stair_some R i is some, (stair_range R some).0) in
-    let row : spot.result.row ≡ record_row R rule =
-    cc (spot.ensures.row_is, stair-row R rule late i is, table_of, n.kb_is, n.m_is, n.x_is, n.columns_is) in
-    let col : spot.result.column ≡ record_column R rule =
-    cc (spot.ensures.column_is, stair-column R rule late i is, table_of, n.kb_is, n.m_is, n.x_is, n.columns_is) in
+    let f = c.in-Some.ensures in
+    let i = c.in-Some.i in
+    let spot = c.in-Some.spot in
+    let is : i ≡ first_not (t R) (stairs R) = rw (← n.t_is) f.1 in
+    let some : all_below (t R) (stairs R) ≡ false = rw (← n.t_is) (first-some-not a.s.t (stairs R) f.1 f.0) in
+    let size = table-length R n c.requires.shape i f.0 in
     let told =
-    told-entry R n c.requires.shape rule i spot.result.row spot.result.column c.told.result c.told.ensures (omega (arith, late)) l
-    (omega (arith, spot.ensures.inside, ap length table_of, size)) (stair-table R rule late i is) row col in
+    told-entry R n c.requires.shape (record_number spot.rule) i spot.row spot.column (wrong (Some c.told.result)) c.told.ensures (omega (arith, f.2.late)) f.0
+    (omega (arith, f.2.inside, size, cell R n spot.row)) (stair-table R (record_number spot.rule) f.2.late i is) (cc (f.2.row_is, stair-row R (record_number spot.rule) f.2.late i is))
+    (cc (f.2.column_is, stair-column R (record_number spot.rule) f.2.late i is)) in
     record {
-      first = told.first ∙ same ∙ sym (stair_some R i is some);
+      first = told.first ∙ f.2.first ∙ sym (stair_some R i is some);
       table_is = told.table_is;
       row_is = told.row_is;
       column_is = told.column_is;
@@ -69,5 +59,5 @@ returns c =
     let a = c.args in
     let R = a.octets.now in
     let n = c.requires.sizes in
-    let all : all_below (t R) (stairs R) ≡ true = rw (← n.t_is) (first-all a.s.t (stairs R) c.first_no_stairs-i.ensures (omega arith)) in
+    let all : all_below (t R) (stairs R) ≡ true = rw (← n.t_is) c.in_default.ensures in
     record { first = sym (stair_none R all); table_is = refl; row_is = refl; column_is = refl; at_is = refl; inside = omega arith }

@@ -1,9 +1,9 @@
-use mathlib.Core.Path.{ap}
+use mathlib.Core.Path.{◌≡◌, ◌∙◌}
 use native.Mathlib.Omega.{arith}
 use lib.ListN.{length}
-use Rattle.profile.specs.Record.{z}
+use Rattle.profile.specs.Record.{z, table, table_size}
 use Rattle.profile.proofs.Shape.{shape_is}
-use Rattle.rules.proofs.Records.{small, table-length, over-same}
+use Rattle.rules.proofs.Records.{small, table-length, over-with}
 use Rattle.rules.proofs.tables.over_in.Goals as goal
 
 pub overflow_mul-i : goal.overflow_mul-i
@@ -24,15 +24,11 @@ number_at-z-requires c =
     let R = a.octets.now in
     omega (arith, (shape_is R c.requires.0.shape).pair a.i (omega (arith, c.requires.0.sizes.t_is, c.requires.1)))
 
-pub first_over-requires : goal.first_over-requires
-first_over-requires c =
-    let a = c.args in
-    let R = a.octets.now in
-    omega (arith, ap length c.table.ensures.same, table-length R c.requires.0.sizes c.requires.0.shape a.i c.requires.1)
-
 pub returns : goal.returns
 unfolding z
 returns c =
     let a = c.args in
     let R = a.octets.now in
-    over-same a.s.size c.number_at-z.ensures.0 c.table.ensures.same c.first_over.ensures
+    let n = c.requires.0.sizes in
+    let long : length (table R a.i) ≡ table_size R = table-length R n c.requires.0.shape a.i c.requires.1 ∙ n.size_is in
+    over-with R a.i c.number_at-z.ensures.0 c.table.ensures.same long c.first_over.result c.first_over.ensures

@@ -1,12 +1,9 @@
--- The loop's invariant: what the words gave is held, each store keeps its length, and both places lie within their texts.
-use Rattle.std.proofs.Common.{◌≡◌, ◌-◌, ◌≤◌, length}
+-- The loop's invariant: what the words gave is held.
 use Rattle.text.specs.Words.{Held}
 use Rattle.text.proofs.forms.read_words.Given as goal
 
-abbrev pub invariant-loop-of_form : goal.invariant-loop-of_form
-invariant-loop-of_form l =
-    Held l.given l.records l.bits l.room × (length l.records ≡ length l.initial.records) × (length l.bits ≡ length l.initial.bits) × (length l.numbers ≡ length l.initial.numbers) × (l.of_form ≤ length l.form) × (l.at ≤ length l.line)
-
-abbrev pub decreases-loop-of_form : goal.decreases-loop-of_form
-decreases-loop-of_form l =
-    length l.form - l.of_form
+abbrev pub invariant-loop-name : goal.invariant-loop-name
+invariant-loop-name l =
+    (goal.iterator-loop-name).can_next l.name-iterator ×
+    (goal.iterator-loop-name).is_finite l.name-iterator ×
+    Held l.given l.records l.bits l.room

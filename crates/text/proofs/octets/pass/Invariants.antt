@@ -1,9 +1,9 @@
--- The loop's invariant: `i` lies between `from` and the end.
-use Rattle.std.proofs.Common.{◌-◌, ◌≤◌, length}
+-- The loop's invariant: what is left is at most what lies behind `from`.
+use Rattle.std.proofs.Common.{◌≤◌, length}
 use Rattle.text.proofs.octets.pass.Given as goal
 
-abbrev pub invariant-loop-i : goal.invariant-loop-i
-invariant-loop-i l = (l.from ≤ l.i) × (l.i ≤ length l.s)
+abbrev pub invariant-loop-stretch : goal.invariant-loop-stretch
+invariant-loop-stretch g l = length l.left ≤ length l.initial.left
 
-abbrev pub decreases-loop-i : goal.decreases-loop-i
-decreases-loop-i l = length l.s - l.i
+abbrev pub decreases-loop-stretch : goal.decreases-loop-stretch
+decreases-loop-stretch g l = length l.left

@@ -1,22 +1,21 @@
-use mathlib.Core.Path.{◌≡◌}
-use Prim.Native.Nat.{◌+◌, ◌/◌}
+use mathlib.Core.Path.{◌≡◌, refl}
 use native.Mathlib.Omega.{arith}
+use lib.Dec.{ltb}
+use lib.ListN.{length}
 use borrow.Author.Rules.{rules}
-use Rattle.shelf.proofs.Finding.{parted_low, parted_high}
+use Rattle.std.proofs.lemmas.List.Sorted.{IsPartitionPoint-from_clause}
+use Rattle.std.proofs.lemmas.Grind.{common_steps}
+use Rattle.shelf.specs.Shelf.{count}
+use Rattle.shelf.specs.Steps.Walking.{pair_in}
+use Rattle.shelf.proofs.Heads.{Heads, heads-parted, parted-at}
 use Rattle.shelf.proofs.inner.find.place_of.Goals as goal
-
-pub loop-low-preserved-then-pair-asked : goal.loop-low-preserved-then-pair-asked
-loop-low-preserved-then-pair-asked c =
-    let l = c.loop-low in
-    (search rules, parted_low c.args.shelf.now c.args.asked c.requires.1 l.low l.high ((l.low + l.high) / 2) l.invariant.1 (omega arith) (omega arith))
-
-pub loop-low-preserved : goal.loop-low-preserved
-loop-low-preserved c =
-    let l = c.loop-low in
-    (search rules, parted_high c.args.shelf.now c.args.asked c.requires.1 l.low l.high ((l.low + l.high) / 2) l.invariant.1 (omega arith) (omega arith))
 
 pub returns : goal.returns
 returns c =
-    let l = c.loop-low in
-    let e : l.high ≡ l.low = omega arith in
-    rw e at l.invariant.1
+    let S = c.args.shelf.now in
+    let n = count S in
+    let H = c.as_chunks.result.0.now in
+    let l : length H ≡ n = grind (arith, common_steps) in
+    let h : H ≡ Heads S n = grind (arith, common_steps) in
+    let p = IsPartitionPoint-from_clause (λ y. ltb (pair_in y) c.args.asked) H c.partition_point.result c.partition_point.ensures.partitioned (heads-parted S c.args.asked n (refl) H h l c.requires.1) (λ a r q k. search rules) in
+    parted-at S c.args.asked n refl H h l c.partition_point.result (omega (arith, c.partition_point.ensures.bound)) p

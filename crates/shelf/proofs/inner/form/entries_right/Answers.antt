@@ -18,7 +18,7 @@ count-count-requires c = omega (arith, (sizes_are c.args.shelf.now c.requires).r
 
 pub loop-k-init : goal.loop-k-init
 unfolding least_pair offset_due
-loop-k-init c = (search rules, search rules, cc, λ j l. absurd (omega arith))
+loop-k-init c = (search rules, cc, λ j l. absurd (omega arith))
 
 pub entry_right-requires : goal.entry_right-requires
 entry_right-requires c =
@@ -58,10 +58,9 @@ loop-k-preserved c =
     let right : entry_right c.args.shelf.now c.loop-k.k ≡ true = cc (not-false c.entry_right.result c.if-not-entry_right.false-raw, entry-carried c.args.shelf.now octets c.loop-k.k) in
     let S = c.args.shelf.now in
     let l = c.loop-k in (
-      search rules,
       omega (arith, least-next S l.k),
       omega (arith, due-after S l.k, (entry_is S l.k right).1),
-      below_more (λ (j : ℕ). entry_right S j ≡ true) l.k l.invariant.3 right,
+      below_more (λ (j : ℕ). entry_right S j ≡ true) l.k l.invariant.2 right,
     )
 
 pub returns : goal.returns
@@ -70,4 +69,4 @@ returns c =
     let S = c.args.shelf.now in
     let l = c.loop-k in
     let last : l.k ≡ count S = omega arith in
-    rw (all_of (count S) (entry_right S) (λ j m. l.invariant.3 j (omega arith))) (cc last)
+    rw (all_of (count S) (entry_right S) (λ j m. l.invariant.2 j (omega arith))) (cc last)

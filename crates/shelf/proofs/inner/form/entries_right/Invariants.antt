@@ -1,14 +1,11 @@
 -- The loop's invariant: every entry passed is right, and what is carried is what is due.
 use mathlib.Core.Path.{◌≡◌}
 use mathlib.Core.Bool.{true}
-use Prim.Native.Nat.{ℕ, ◌-◌, ◌≤◌, ◌<◌}
+use Prim.Native.Nat.{ℕ, ◌<◌}
 use Rattle.shelf.specs.Shelf.{offset_due}
 use Rattle.shelf.specs.Steps.Walking.{least_pair, entry_right}
 use Rattle.shelf.proofs.inner.form.entries_right.Given as goal
 
 abbrev pub invariant-loop-k : goal.invariant-loop-k
 invariant-loop-k l =
-    (l.k ≤ l.count) × (l.least ≡ least_pair l.shelf l.k) × (l.due ≡ offset_due l.shelf l.k) × ((j : ℕ) → j < l.k → entry_right l.shelf j ≡ true)
-
-abbrev pub decreases-loop-k : goal.decreases-loop-k
-decreases-loop-k l = l.count - l.k
+    (l.least ≡ least_pair l.shelf l.k) × (l.due ≡ offset_due l.shelf l.k) × ((j : ℕ) → j < l.k → entry_right l.shelf j ≡ true)

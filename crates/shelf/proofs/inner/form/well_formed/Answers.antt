@@ -1,39 +1,28 @@
-use mathlib.Core.Path.{◌≡◌}
-use mathlib.Core.Bool.{true, false}
-use borrow.Author.Tests.{not-true, not-false}
+use mathlib.Core.Path.{◌≡◌, sym, ◌∙◌}
+use mathlib.Core.Bool.{true, false, ◌&&◌}
 use Rattle.shelf.specs.Steps.Walking.{sizes_right, tenants_right, walk_right}
 use Rattle.shelf.proofs.WellFormed.{walk_is}
 use Rattle.shelf.proofs.inner.form.well_formed.Goals as goal
+use Rattle.shelf.proofs.inner.form.well_formed.Goals.{then-sizes_right, else-sizes_right}
 
-pub returns-then-not-sizes_right : goal.returns-then-not-sizes_right
+pub returns-then-tenants_right : goal.returns-then-tenants_right
 unfolding walk_right
-returns-then-not-sizes_right c =
-    let a = c.args in
-    let S = a.shelf.now in
-    let one : sizes_right S ≡ false = cc (not-true c.sizes_right.result c.if-not-sizes_right.true-raw) in
-    rw (← walk_is S a.private, one)
+returns-then-tenants_right c =
+    let S = c.args.shelf.now in
+    let front : c.if-sizes_right.value ≡ (sizes_right S && tenants_right c.args.private S) =
+    elim c.if-sizes_right.branch [
+      | then-sizes_right w ↦ rw (sym c.sizes_right.ensures ∙ w.if-sizes_right.true) (w.value-is ∙ w.tenants_right.ensures)
+      | else-sizes_right w ↦ rw (sym c.sizes_right.ensures ∙ w.if-sizes_right.false) (w.value-is ∙ w.if-sizes_right.false)
+    ] in
+    rw (← walk_is S c.args.private, ← front, c.if-tenants_right.true) c.entries_right.ensures
 
-pub tenants_right-requires : goal.tenants_right-requires
-tenants_right-requires c = cc (not-false c.sizes_right.result c.if-not-sizes_right.false-raw)
-
-pub returns-then-not-tenants_right : goal.returns-then-not-tenants_right
+pub returns-else-tenants_right : goal.returns-else-tenants_right
 unfolding walk_right
-returns-then-not-tenants_right c =
-    let a = c.args in
-    let S = a.shelf.now in
-    let one : sizes_right S ≡ true = cc (not-false c.sizes_right.result c.if-not-sizes_right.false-raw) in
-    let two : tenants_right a.private S ≡ false = cc (not-true c.tenants_right.result c.if-not-tenants_right.true-raw) in
-    rw (← walk_is S a.private, one, two)
-
-pub entries_right-requires : goal.entries_right-requires
-entries_right-requires c =
-    cc (not-false c.sizes_right.result c.if-not-sizes_right.false-raw)
-
-pub returns : goal.returns
-unfolding walk_right
-returns c =
-    let a = c.args in
-    let S = a.shelf.now in
-    let one : sizes_right S ≡ true = cc (not-false c.sizes_right.result c.if-not-sizes_right.false-raw) in
-    let two : tenants_right a.private S ≡ true = cc (not-false c.tenants_right.result c.if-not-tenants_right.false-raw) in
-    rw (← walk_is S a.private, one, two) (cc)
+returns-else-tenants_right c =
+    let S = c.args.shelf.now in
+    let front : c.if-sizes_right.value ≡ (sizes_right S && tenants_right c.args.private S) =
+    elim c.if-sizes_right.branch [
+      | then-sizes_right w ↦ rw (sym c.sizes_right.ensures ∙ w.if-sizes_right.true) (w.value-is ∙ w.tenants_right.ensures)
+      | else-sizes_right w ↦ rw (sym c.sizes_right.ensures ∙ w.if-sizes_right.false) (w.value-is ∙ w.if-sizes_right.false)
+    ] in
+    rw (← walk_is S c.args.private, ← front, c.if-tenants_right.false)

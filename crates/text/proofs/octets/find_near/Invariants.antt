@@ -1,9 +1,0 @@
--- The loop's invariant: `i` lies between `from` and the end.
-use Rattle.std.proofs.Common.{◌-◌, ◌≤◌, length}
-use Rattle.text.proofs.octets.find_near.Given as goal
-
-abbrev pub invariant-loop-i : goal.invariant-loop-i
-invariant-loop-i l = (l.from ≤ l.i) × (l.i ≤ length l.s)
-
-abbrev pub decreases-loop-i : goal.decreases-loop-i
-decreases-loop-i l = length l.s - l.i

@@ -1,9 +1,0 @@
--- The loop's invariant: `i` is at most the length.
-use Rattle.std.proofs.Common.{◌-◌, ◌≤◌, length}
-use Rattle.text.proofs.octets.same.Given as goal
-
-abbrev pub invariant-loop-i : goal.invariant-loop-i
-invariant-loop-i l = l.i ≤ length l.s
-
-abbrev pub decreases-loop-i : goal.decreases-loop-i
-decreases-loop-i l = length l.s - l.i

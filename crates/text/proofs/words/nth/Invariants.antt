@@ -1,9 +1,0 @@
--- The loop's invariant: nothing, since its test keeps `at` within the list.
-use Rattle.std.proofs.Common.{◌-◌, length}
-use Rattle.text.proofs.words.nth.Given as goal
-
-abbrev pub invariant-loop-at : goal.invariant-loop-at
-invariant-loop-at l = Unit
-
-abbrev pub decreases-loop-at : goal.decreases-loop-at
-decreases-loop-at l = length l.list - l.at
