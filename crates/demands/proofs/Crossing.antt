@@ -1,6 +1,6 @@
 -- "What is handed back is that stretch of one shelf or the other, not a copy" (document 01, "Shelf and profile records"), also where a reference cannot cross:
 -- the place that the library answers to C and Rust is that of the stretch that lookup hands back.
-use mathlib.Core.Path.{◌≡◌, refl, sym, ◌∙◌, ap}
+use mathlib.Core.Path.{◌≡◌, sym, ◌∙◌, ap}
 use mathlib.Core.Bool.{Bool, true, false, cond}
 use mathlib.Core.List.{List}
 use Prim.Native.Nat.{ℕ, zero, suc}

@@ -11,7 +11,7 @@ use Rattle.bits.proofs.Ranges.{both, any_of, first_some}
 use Rattle.shelf.specs.Shelf.{count, tenant, profile, record_at, rises, tenant_right, private_shelf}
 use Rattle.shelf.specs.Lookup.{is_entry, has, entry_of, record_of}
 use Rattle.shelf.proofs.WellFormed.{is-formed, one_entry}
-use Rattle.keeping.specs.Entries.{Entry, entries, below, shelf_of}
+use Rattle.keeping.specs.Entries.{Entry, below, shelf_of}
 use Rattle.keeping.proofs.Spelled.{length-shelf}
 use Rattle.demands.proofs.Placed.{at, Holds, shelf-holds, chain_at, ends_at}
 use Rattle.keeping.proofs.Pairs.{lower-below, In}
