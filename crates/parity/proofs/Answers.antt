@@ -2,13 +2,11 @@
 use mathlib.Core.Path.{◌≡◌, refl, sym, ◌∙◌}
 use mathlib.Core.Bool.{Bool, true, false, not, cond, ◌||◌}
 use mathlib.Core.List.{List, [], ◌∷◌, ◌++◌}
-use Prim.Native.Nat.{ℕ, ◌*◌, ◌≤◌, ◌<◌}
+use Prim.Native.Nat.{ℕ, ◌*◌, ◌≤◌}
 use native.Mathlib.Omega.{arith}
 use lib.Dec.{eqb, ltb, lit<}
 use lib.ListN.{length, drop}
 use borrow.Author.Tests.{eqb-true, ltb-false, not-false}
-use Rattle.std.specs.Prelude.{Option, Some, None, Ok, Err, unwrap_or, IfSome}
-use Rattle.std.specs.Option.{ok_or}
 use Rattle.bits.specs.declared.number.Refusal.{Refusal}
 use Rattle.bits.specs.Bits.{some_over}
 use Rattle.bits.specs.Numbers.{answered}
@@ -45,15 +43,6 @@ module _ (R : List ℕ) (z' : ℕ) where
       by_value : (b : Bool) → any_below (t R) (λ i. eqb (z R i) z') ≡ b → b ≡ true
       by_value true q = refl
       by_value false q = absurd (n (first-none (t R) (λ i. eqb (z R i) z') q))
-
-  -- by what the search hands back
-  pub none_found : (o : Option ℕ) {e f : Refusal} → Err f ≡ ok_or o e → unwrap_or o (t R) ≡ at → (has_size R z' ≡ false) × (f ≡ e)
-  none_found None q first = (size_none (sym first), cc)
-  none_found (Some i) q first = absurd (let y : ◌≡◌ {A = ℕ} 0 1 = cc in omega arith)
-
-  pub some_found : (o : Option ℕ) {i : ℕ} (e : Refusal) → Ok i ≡ ok_or o e → unwrap_or o (t R) ≡ at → IfSome o (λ k. k < t R) → has_size R z' ≡ true
-  some_found None e q first within = absurd (let y : ◌≡◌ {A = ℕ} 0 1 = cc in omega arith)
-  some_found (Some k) e q first within = size-some (λ p. omega (arith, within, first, p))
 
   pub unfit-size : (n : ℕ) (w : List ℕ) → has_size R z' ≡ false → unfit R z' n w ≡ true
   unfolding unfit

@@ -18,11 +18,13 @@ pub fn admit_size(profile: &[u8], z: usize, n: usize, w: &[u8]) -> Result<usize,
     ensures number { number_of result ≡ cond (unfit profile.now z n w.now) 8 0 }
     ensures found { IfOk result (λ i. i ≡ size_at profile.now z) }
 {
-    let index = profile::inner::index_of(profile, z).ok_or(Refusal::Parameter)?;
-    if w.len() != n * z {
+    let Some(index) = profile::inner::index_of(profile, z) else {
         return Err(Refusal::Parameter);
+    };
+    if w.len() == n * z {
+        return Ok(index);
     }
-    Ok(index)
+    Err(Refusal::Parameter)
 }
 
 // Most tables have few rows: these are given less room, so that no more is cleared for a small block than it takes. Both users choose the room themselves: one that

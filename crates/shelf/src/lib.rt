@@ -41,7 +41,7 @@ pub fn hosted_send<'a>(
 ) -> Result<usize, Refusal>
     ensures { HostedSent private.now public.now tenant profile block.now terms g.0 out.old (written result) out.new }
 {
-    let given = lookup(private, public, tenant, profile)?;
+    let given = stretch(private, public, look(private, public, tenant, profile)?);
     coding::send(given, block, terms, g, out)
 }
 
@@ -59,7 +59,7 @@ pub fn hosted_receive<'a>(
 ) -> Result<usize, Refusal>
     ensures { HostedReceived private.now public.now tenant profile a terms bits.now out.old (written result) out.new }
 {
-    let record = lookup(private, public, tenant, profile)?;
+    let record = stretch(private, public, look(private, public, tenant, profile)?);
     coding::receive(record, a, terms, bits, checker, out)
 }
 
@@ -75,6 +75,6 @@ pub fn hosted_check<'a>(
 ) -> Result<bool, Refusal>
     ensures { HostedChecked private.now public.now tenant profile z word.now (verdict result) }
 {
-    let printed = lookup(private, public, tenant, profile)?;
+    let printed = stretch(private, public, look(private, public, tenant, profile)?);
     checking::check_word(printed, z, word, checker)
 }
