@@ -4,6 +4,7 @@ ghost use Rattle.std.specs.Prelude.{◌≤◌, length};
 use crate::answers::Answer;
 use crate::names;
 use text::faults::Fault;
+use text::octets::find;
 
 // Of a line that is too long only the start is here, and a comment has no answer even then.
 pub fn answer(
@@ -55,20 +56,23 @@ fn is_comment(line: &[u8]) -> bool {
 }
 
 // A comment behind a request begins with the first space that a # follows. Most lines have no #, which is
-// quickly seen.
+// quickly seen, since `find` looks at many octets at once.
 fn before_comment(line: &[u8]) -> &[u8]
     ensures { length result.now ≤ length line.now }
 {
-    if !line.contains(&b'#') {
-        return line;
+    let mut at = find(line, 0, b'#');
+    while at < line.len() {
+        if let Some(request) = line[..at].strip_suffix(b" ") {
+            return request;
+        }
+        at = find(line, at + 1, b'#');
     }
-    match line.windows(2).position(|pair| pair == b" #".as_slice()) {
-        Some(n) => &line[..n],
-        None => line,
-    }
+    line
 }
 
-fn without_spaces(line: &[u8]) -> &[u8] {
+fn without_spaces(line: &[u8]) -> &[u8]
+    ensures { length result.now ≤ length line.now }
+{
     match line.iter().rposition(|x| *x != b' ') {
         Some(last) => &line[..last + 1],
         None => &[],

@@ -68,9 +68,9 @@ fn read_words(
         bits: 0,
         lent: 0,
     };
-    let mut words = Words::behind_first(line);
+    let mut words = Words::<false>::behind_first(line);
     let mut k = 1;
-    for name in form.split(|x| *x == b' ').skip(1) {
+    for name in Words::<true>::behind_first(form) {
         let word = words.next().unwrap_or(b"");
         let value = read_word(name, word, records, bits, room, &mut given)?;
         if k < numbers.len() {

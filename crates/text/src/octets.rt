@@ -34,14 +34,14 @@ fn pass<const N: usize>(s: &[u8], from: usize, octet: u8) -> usize
     requires { (from ≤ length s.now) × (1 ≤ N) × (N ≤ 64) }
     ensures { (from ≤ result) × (result ≤ length s.now) }
 {
-    let mut left = &s[from..];
-    while let Some((stretch, rest)) = left.split_first_chunk::<N>() {
+    let mut at = from;
+    while let Some(stretch) = s[at..].first_chunk::<N>() {
         if is_in(stretch, octet) {
             break;
         }
-        left = rest;
+        at += N;
     }
-    s.len() - left.len()
+    at
 }
 
 // No turn leaves early, so that many are compared at once.

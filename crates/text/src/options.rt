@@ -4,7 +4,7 @@
 ghost use Rattle.std.specs.Prelude.{◌<◌, ◌≤◌, IfSome, length};
 
 use crate::faults::Fault;
-use crate::octets::find_near;
+use crate::octets::{find, find_near};
 use crate::values;
 use crate::words::Words;
 
@@ -12,7 +12,7 @@ use crate::words::Words;
 pub fn start(text: &[u8]) -> usize
     ensures { result ≤ length text.now }
 {
-    if !text.contains(&b'=') {
+    if find(text, 0, b'=') == text.len() {
         return text.len();
     }
     start_from_end(text)
@@ -40,7 +40,7 @@ fn last_space(text: &[u8]) -> Option<usize>
 
 // Whether each optional word of a line is one of the form's and stands there once.
 pub fn are_known(form: &[u8], line: &[u8]) -> bool {
-    let mut words = Words::of(line);
+    let mut words = Words::<false>::of(line);
     while let Some(word) = words.next() {
         let name = name_of(word);
         if has(words.rest(), name) {
@@ -54,7 +54,7 @@ pub fn are_known(form: &[u8], line: &[u8]) -> bool {
 }
 
 fn has(options: &[u8], name: &[u8]) -> bool {
-    Words::of(options).any(|word| name_of(word) == name)
+    Words::<false>::of(options).any(|word| name_of(word) == name)
 }
 
 // Reads the optional words of a request. `numbers` takes what each holds, at the place that it has
@@ -70,14 +70,14 @@ pub fn read(form: &[u8], line: &[u8], numbers: &mut [usize]) -> Result<(), Fault
     if !are_known(form, line) {
         return Err(Fault::Words);
     }
-    for word in Words::of(line) {
+    for word in Words::<false>::of(line) {
         read_word(form, word, numbers)?;
     }
     Ok(())
 }
 
 fn put_defaults(form: &[u8], numbers: &mut [usize]) {
-    for (number, word) in numbers.iter_mut().zip(form.split(|x| *x == b' ').skip(1)) {
+    for (number, word) in numbers.iter_mut().zip(Words::<true>::of(form)) {
         *number = default(value_of(word));
     }
 }
@@ -100,9 +100,12 @@ fn value_of(word: &[u8]) -> &[u8] {
 
 fn read_word(form: &[u8], word: &[u8], numbers: &mut [usize]) -> Result<(), Fault> {
     let name = name_of(word);
-    for (number, of_form) in numbers.iter_mut().zip(Words::of(form)) {
+    for (k, of_form) in Words::<true>::of(form).enumerate() {
         if name_of(of_form) == name {
-            *number = value(value_of(of_form), value_of(word))?;
+            let held = value(value_of(of_form), value_of(word))?;
+            if let Some(number) = numbers.get_mut(k) {
+                *number = held;
+            }
         }
     }
     Ok(())

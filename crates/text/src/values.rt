@@ -1,5 +1,5 @@
 // What the words of a request hold: numbers, bits and octets.
-ghost use Rattle.std.specs.Prelude.{◌≡◌, ◌+◌, ◌*◌, ◌<◌, ◌≤◌, IfOk, length};
+ghost use Rattle.std.specs.Prelude.{◌≡◌, ◌+◌, ◌*◌, ◌/◌, ◌<◌, ◌≤◌, IfOk, length};
 
 use crate::faults::Fault;
 use crate::octets::joined;
@@ -175,7 +175,10 @@ fn all_pairs(digits: &[u8], store: &mut [u8]) -> bool
     if digits.len() < 32 {
         return few_pairs(digits, store);
     }
-    many_pairs(digits, store)
+    if digits.len() < 64 {
+        return many_pairs::<32>(digits, store);
+    }
+    many_pairs::<64>(digits, store)
 }
 
 fn few_pairs(digits: &[u8], store: &mut [u8]) -> bool
@@ -191,30 +194,31 @@ fn few_pairs(digits: &[u8], store: &mut [u8]) -> bool
     other == 0
 }
 
-// Sixteen pairs at once; the last sixteen end with the digits, so some of them are read twice.
-fn many_pairs(digits: &[u8], store: &mut [u8]) -> bool
-    requires { (32 ≤ length digits.now) × (length digits.now ≤ 2 * length store.old) }
+// N digits at once, an even number; the last N end with the digits, so some of them are read twice.
+fn many_pairs<const N: usize>(digits: &[u8], store: &mut [u8]) -> bool
+    requires { (2 ≤ N) × (N ≤ 64) × (N ≤ length digits.now) × (length digits.now ≤ 2 * length store.old) }
 {
-    let last = digits.len() - 32;
+    let last = digits.len() - N;
     let mut good = true;
-    for k in 0..digits.len() / 32 {
-        good &= sixteen_pairs(&digits[32 * k..], &mut store[16 * k..]);
+    for from in (0..digits.len()).step_by(N) {
+        let at = last.min(from);
+        good &= some_pairs::<N>(&digits[at..], &mut store[at / 2..]);
     }
-    good & sixteen_pairs(&digits[last..], &mut store[last / 2..])
-}
-
-// The first 32 digits, into the first 16 octets.
-fn sixteen_pairs(digits: &[u8], store: &mut [u8]) -> bool
-    requires { (32 ≤ length digits.now) × (16 ≤ length store.old) }
-{
-    let mut row = [0u8; 32];
-    let good = all_values(&digits[..32], &mut row);
-    put_pairs(&row, &mut store[..16]);
     good
 }
 
-fn all_values(digits: &[u8], row: &mut [u8; 32]) -> bool
-    requires { length digits.now ≡ 32 }
+// The first N digits, into the first N / 2 octets.
+fn some_pairs<const N: usize>(digits: &[u8], store: &mut [u8]) -> bool
+    requires { (2 ≤ N) × (N ≤ 64) × (N ≤ length digits.now) × (N / 2 ≤ length store.old) }
+{
+    let mut row = [0u8; N];
+    let good = all_values(&digits[..N], &mut row);
+    put_pairs(&row, &mut store[..N / 2]);
+    good
+}
+
+fn all_values(digits: &[u8], row: &mut [u8]) -> bool
+    requires { length row.old ≡ length digits.now }
 {
     let mut other = 0u8;
     for (k, x) in digits.iter().enumerate() {
@@ -224,10 +228,10 @@ fn all_values(digits: &[u8], row: &mut [u8; 32]) -> bool
     other == 0
 }
 
-fn put_pairs(row: &[u8; 32], store: &mut [u8])
-    requires { length store.old ≡ 16 }
+fn put_pairs(row: &[u8], store: &mut [u8])
+    requires { 2 * length store.old ≤ length row.now }
 {
-    for i in 0..16 {
+    for i in 0..store.len() {
         store[i] = joined(row, 2 * i, 4097);
     }
 }

@@ -4,14 +4,15 @@ ghost use Rattle.std.specs.Iterator.{at_most};
 
 use crate::octets::{find, find_near};
 
-// The words of a line, each with the space before it: the first of a line has none, so it is none of them.
+// The words of a line, each with the space before it: the first of a line has none, so it is none of them. Words of a form are NEAR:
+// they are short, and looked for octet by octet.
 #[derive(Drop)]
-pub struct Words<'a> {
+pub struct Words<'a, const NEAR: bool> {
     // What is left begins with the space before the next word.
     rest: &'a [u8],
 }
 
-impl<'a> Words<'a> {
+impl<'a, const NEAR: bool> Words<'a, NEAR> {
     pub fn of(rest: &'a [u8]) -> Self {
         Self { rest }
     }
@@ -27,14 +28,18 @@ impl<'a> Words<'a> {
     }
 }
 
-impl<'a> Iterator for Words<'a> {
+impl<'a, const NEAR: bool> Iterator for Words<'a, NEAR> {
     type Item = &'a [u8];
 
     ghost remaining = { λ s. at_most (length s.rest.now) };
 
     fn next(&mut self) -> Option<&'a [u8]> {
         let (_, text) = self.rest.split_first()?;
-        let end = find(text, 0, b' ');
+        let end = if NEAR {
+            find_near(text, 0, b' ')
+        } else {
+            find(text, 0, b' ')
+        };
         self.rest = &text[end..];
         Some(&text[..end])
     }
@@ -42,10 +47,17 @@ impl<'a> Iterator for Words<'a> {
 
 // How many words there are, or none where one of them is empty.
 pub fn count(text: &[u8]) -> Option<usize> {
-    if text.split(|x| *x == b' ').any(|word| word.is_empty()) {
+    if before(text, b' ').is_empty() {
         return None;
     }
-    Some(text.split(|x| *x == b' ').count())
+    let mut n = 1usize;
+    for word in Words::<false>::behind_first(text) {
+        if word.is_empty() {
+            return None;
+        }
+        n = n.saturating_add(1);
+    }
+    Some(n)
 }
 
 // What stands before the first such octet and what behind it, where there is one.
