@@ -135,7 +135,7 @@ nearest-word D heard a b = found-agree a b
 pub least-bits : {R : List ℕ} {octets : ℕ} {terms : Terms} {r r' : Advised} → LeastRoom R octets terms r → LeastRoom R octets terms r' → r ≡ r'
 least-bits a b = least-agree a b
 
--- ---- shelf::lookup_number, shelf::lookup (a stretch is its octets and its place), shelf::hosted_send, shelf::hosted_receive,
+-- ---- the number of shelf::lookup, shelf::lookup (a stretch is its octets and its place), shelf::hosted_send, shelf::hosted_receive,
 -- shelf::hosted_check
 
 pub lookup-number : (private public : List ℕ) (t p : ℕ) {r r' : ℕ} → r ≡ lookup_number private public t p → r' ≡ lookup_number private public t p → r ≡ r'
