@@ -5,14 +5,20 @@ pub fn same(s: &[u8], t: &[u8]) -> bool {
     s == t
 }
 
-// The place of the first such octet at `from` or behind it, or the end where there is none. It is looked
-// for by long stretches, then by short ones, and then octet by octet.
+// The place of the first such octet at `from` or behind it, or the end where there is none. Most words end
+// within a short stretch; behind it the octet is looked for by long stretches and by short ones. Within
+// the stretch that has it, it is looked for octet by octet.
 pub fn find(s: &[u8], from: usize, octet: u8) -> usize
     requires { from ≤ length s.now }
     ensures { (from ≤ result) × (result ≤ length s.now) }
 {
-    let far = pass::<64>(s, from, octet);
-    let near = pass::<16>(s, far, octet);
+    let near = match s[from..].first_chunk::<16>() {
+        Some(stretch) if !is_in(stretch, octet) => {
+            let far = pass::<64>(s, from + 16, octet);
+            pass::<16>(s, far, octet)
+        }
+        _ => from,
+    };
     find_near(s, near, octet)
 }
 

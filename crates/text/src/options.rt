@@ -5,8 +5,8 @@ ghost use Rattle.std.specs.Prelude.{◌<◌, ◌≤◌, IfSome, length};
 
 use crate::faults::Fault;
 use crate::octets::{find, find_near};
-use crate::values;
 use crate::words::Words;
+use crate::{values, words};
 
 // Where the words before the optional ones end. Most lines have no `=`, which is quickly seen.
 pub fn start(text: &[u8]) -> usize
@@ -24,7 +24,7 @@ fn start_from_end(text: &[u8]) -> usize
 {
     let mut end = text.len();
     while let Some(space) = last_space(&text[..end]) {
-        if !text[space..end].contains(&b'=') {
+        if find(&text[..end], space, b'=') == end {
             break;
         }
         end = space;
@@ -88,7 +88,7 @@ fn default(value: &[u8]) -> usize {
 }
 
 fn name_of(word: &[u8]) -> &[u8] {
-    &word[..find_near(word, 0, b'=')]
+    words::before(word, b'=')
 }
 
 fn value_of(word: &[u8]) -> &[u8] {

@@ -40,13 +40,19 @@ pub fn number(word: &[u8]) -> Result<usize, Fault> {
         return Err(Fault::Number);
     }
     let mut value: usize = 0;
-    for x in word {
+    for x in without_zeros(word) {
         if !is_digit(*x) {
             return Err(Fault::Number);
         }
         value = with_digit(value, usize::from(*x % 16)).ok_or(Fault::Number)?;
     }
     Ok(value)
+}
+
+// Zeros in front are allowed, as many as a line holds, and are only gone over.
+fn without_zeros(word: &[u8]) -> &[u8] {
+    let zeros = word.iter().position(|x| *x != b'0');
+    &word[zeros.unwrap_or(word.len())..]
 }
 
 // A number with one more digit, where that has at most 64 bits.
